@@ -1,0 +1,5 @@
+-- What stands in lent memory. Read in this order; what follows Refusals is for the crates above.
+pub mod Base
+pub mod Layout
+pub mod Refusals
+pub mod Survey

@@ -81,6 +81,19 @@ walked-stops xs w p n i at x y k h f = sym (cond-false _ x y (blocks-fit-fails x
 pub block-fits-inside : (xs : List ℕ) (w p : ℕ) → block-fits xs w p ≡ true → block-end xs w p ≤ length xs
 block-fits-inside xs w p h = grind (arith, tells)
 
+-- where its numbers stand
+pub record Inside (xs : List ℕ) (w p : ℕ) : Type 0 where
+  pub heading : p + 2 ≤ length xs
+  pub few-rows : getD xs (p + 1) 0 ≤ 64
+  pub rows : p + 2 + getD xs (p + 1) 0 * w ≤ length xs
+
+pub inside-from : (xs : List ℕ) (w p : ℕ) → block-fits xs w p ≡ true → Inside xs w p
+unfolding block-end
+inside-from xs w p h =
+    let a = and-parts (leb (p + 2) (length xs)) (leb (getD xs (p + 1) 0) 64 && leb (block-end xs w p) (length xs)) h in
+    let b = and-parts (leb (getD xs (p + 1) 0) 64) (leb (block-end xs w p) (length xs)) (a .1) in
+    record { heading = leb-true _ _ (a .0); few-rows = leb-true _ _ (b .0); rows = leb-true _ _ (b .1) }
+
 -- where the blocks are all there, they end in the slice, behind their beginning
 pub block-place-inside : (xs : List ℕ) (w p n : ℕ) → p ≤ length xs → blocks-fit xs w p n ≡ true → (p ≤ block-place xs w p n) × (block-place xs w p n ≤ length xs)
 unfolding blocks-fit block-place block-end

@@ -2,3 +2,10 @@
 pub mod Small
 pub mod Fitting
 pub mod Surveying
+pub mod Ways
+pub mod Entering
+pub mod Proper
+pub mod Noting
+pub mod Placing
+pub mod Views
+pub mod Finding

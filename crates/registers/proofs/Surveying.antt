@@ -18,7 +18,7 @@ use Rattle.std.proofs.shelf.Tests.{cases-eq, cond-true, cond-false}
 use Rattle.std.proofs.shelf.Ways.{tells}
 use Rattle.registers.specs.declared.layout.Section.{Section}
 use Rattle.registers.specs.declared.layout.Directory.{Directory}
-use Rattle.registers.specs.declared.refusals.Refusal.the-variants.{Layout}
+use Rattle.registers.specs.declared.refusals.Refusal.{Refusal}
 use Rattle.registers.specs.Layout.{blocks-at, blocks-before, count-of, register-end, register-place}
 use Rattle.registers.specs.Refusals.{answered, count-fits, first-failing, misfit, or-else, refused-at, register-fits, small}
 use Rattle.registers.specs.Survey.{directory-of, no-section, section-at, section-of}
@@ -119,12 +119,12 @@ directory-ends xs t at blocks sections k e =
     (fill-by-all (λ i. cond (ltb i (count-of xs)) (section-of xs i) no-section) sections 8 no-section (k .wide)
     (λ i l. k .noted i l ∙ ap (λ (n : ℕ). cond (ltb i n) (section-of xs i) no-section) e))
 
--- the answers to which these lead
-pub told-refused : (xs : List ℕ) (t : ℕ) → misfit xs ≡ Some t → Err (Layout t) ≡ answered (refused-at Layout (misfit xs)) (directory-of xs)
-told-refused xs t e = simp e
+-- the answer that is told where a test fails at some place, and where it fails at none
+pub told-at : {A : Type 0} (f : ℕ → Refusal) (o : Option ℕ) (t : ℕ) (a : A) → o ≡ Some t → Err (f t) ≡ answered (refused-at f o) a
+told-at f o t a e = simp e
 
-pub told-none : (xs : List ℕ) (d : Directory) → misfit xs ≡ None → d ≡ directory-of xs → Ok d ≡ answered (refused-at Layout (misfit xs)) (directory-of xs)
-told-none xs d e h = simp (e, h)
+pub told-ok : {A : Type 0} (f : ℕ → Refusal) (o : Option ℕ) (x a : A) → o ≡ None → x ≡ a → Ok x ≡ answered (refused-at f o) a
+told-ok f o x a e h = simp (e, h)
 
 -- a slice that begins with a small number has a first place before its first large number
 pub run-begins : (xs : List ℕ) → 1 ≤ length xs → getD xs 0 0 ≤ 8 → 1 ≤ run xs

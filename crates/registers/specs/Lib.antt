@@ -3,3 +3,6 @@ pub mod Base
 pub mod Layout
 pub mod Refusals
 pub mod Survey
+pub mod Table
+pub mod Indexing
+pub mod Views

@@ -1,7 +1,7 @@
 -- Where each register of a slice stands: what the survey answers. Assumes nothing: these are definitions.
 use mathlib.Core.Bool.{cond}
 use mathlib.Core.List.{List, map}
-use Prim.Native.Nat.{ℕ, _+_}
+use Prim.Native.Nat.{ℕ}
 use lib.Dec.{ltb}
 use Rattle.std.specs.Iters.{counting}
 use Rattle.registers.specs.declared.layout.Section.{Section}
@@ -11,14 +11,14 @@ use Rattle.registers.specs.Layout.{blocks-at, blocks-before, columns-at, count
 -- the register that begins at place p, with so many blocks in the registers before it
 abbrev pub section-at : List ℕ → (p first : ℕ) → Section
 section-at xs p first =
-    record { start = p + 2; end = register-end xs p; blocks = blocks-at xs p; columns = columns-at xs p; first = first }
+    record { place = p; end = register-end xs p; blocks = blocks-at xs p; columns = columns-at xs p; first = first }
 
 -- the t-th register
 abbrev pub section-of : List ℕ → ℕ → Section
 section-of xs t = section-at xs (register-place xs t) (blocks-before xs t)
 
 abbrev pub no-section : Section
-no-section = record { start = 0; end = 0; blocks = 0; columns = 0; first = 0 }
+no-section = record { place = 0; end = 0; blocks = 0; columns = 0; first = 0 }
 
 -- all of them, in room for eight
 unfoldable pub directory-of : List ℕ → Directory

@@ -26,8 +26,8 @@ pub const NUMBER_LIMIT: u64 = 1 << 32;
 // A register in the slice.
 #[derive(Clone, Copy)]
 pub struct Section {
-    // Where its first block begins, and the place behind its last.
-    pub start: usize,
+    // Where it begins, with its count of blocks and of columns, and the place behind its last block.
+    pub place: usize,
     pub end: usize,
     pub blocks: usize,
     pub columns: usize,
@@ -95,15 +95,14 @@ fn section_at(base: &[u64], at: usize, first: usize, large: usize) -> Option<Sec
     }
     let blocks = blocks as usize;
     let columns = columns as usize;
-    let start = at + 2;
-    let Some(end) = blocks_end(base, start, blocks, columns) else {
+    let Some(end) = blocks_end(base, at + 2, blocks, columns) else {
         return None;
     };
     if end > large {
         return None;
     }
     Some(Section {
-        start,
+        place: at,
         end,
         blocks,
         columns,
@@ -128,7 +127,7 @@ pub fn survey(base: &[u64]) -> Result<Directory, Refusal>
     let count = count as usize;
     let large = before_large(base);
     let mut sections = [Section {
-        start: 0,
+        place: 0,
         end: 0,
         blocks: 0,
         columns: 0,

@@ -41,4 +41,4 @@ returns c =
     let fits : register-fits (c .args .base .now) (c .args .at) ≡ true =
     register-fits-there (c .args .base .now) (c .args .at) (omega arith) (omega (arith, run-le-length (c .args .base .now))) (c .if-blocks-gt-MAX-BLOCKS .left) (omega arith) (c .if-columns-gt-MAX-COLUMNS .left) (got .0)
     ∙ le-leb (register-end (c .args .base .now) (c .args .at)) (run (c .args .base .now)) (omega arith) in
-    ap (λ (e : ℕ). Some (record { start = c .args .at + 2; end = e; blocks = blocks-at (c .args .base .now) (c .args .at); columns = columns-at (c .args .base .now) (c .args .at); first = c .args .first })) (got .1) ∙ sym (cond-true _ _ _ fits)
+    ap (λ (e : ℕ). Some (record { place = c .args .at; end = e; blocks = blocks-at (c .args .base .now) (c .args .at); columns = columns-at (c .args .base .now) (c .args .at); first = c .args .first })) (got .1) ∙ sym (cond-true _ _ _ fits)

@@ -9,3 +9,4 @@ pub mod Noting
 pub mod Placing
 pub mod Views
 pub mod Finding
+pub mod Checking

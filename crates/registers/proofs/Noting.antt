@@ -17,7 +17,7 @@ use Rattle.std.proofs.shelf.Ways.{tells}
 use Rattle.registers.specs.declared.layout.Section.{Section}
 use Rattle.registers.specs.declared.table.Slot.{Slot}
 use Rattle.registers.specs.Base.{Block, Register, has-key, proper-register}
-use Rattle.registers.specs.Indexing.{Awaits, Entered, keys-of}
+use Rattle.registers.specs.Indexing.{Awaits, Entered, Stands, keys-of}
 use Rattle.registers.specs.Layout.{block-at, block-end, block-place, blocks-at, blocks-from, columns-at, register-at, register-end, rows-from}
 use Rattle.registers.specs.Refusals.{block-fits, blocks-fit}
 use Rattle.registers.specs.Table.{Holds, Open, Probed, free}
@@ -63,22 +63,24 @@ block-fits-at xs w p (suc n) i h l =
     (λ other. let less : i < n = omega arith in block-fits-at xs w p n i (parts .0) less)
     (cases-eq i n)
 
--- what is known of the register that awaits its entries
-pub awaits-columns : (xs : List ℕ) (section : Section) (table : List Slot) (places : List ℕ) → Awaits xs section table places → section .columns ≡ columns-at xs (section .place)
-awaits-columns xs section table places a = ap (λ (s : Section). s .columns) (a .section-is)
+-- what is known of a register that is there, by its section
+pub stands-columns : (xs : List ℕ) (section : Section) → Stands xs section → section .columns ≡ columns-at xs (section .place)
+stands-columns xs section a = ap (λ (s : Section). s .columns) (a .section-is)
 
-pub awaits-blocks : (xs : List ℕ) (section : Section) (table : List Slot) (places : List ℕ) → Awaits xs section table places → section .blocks ≡ blocks-at xs (section .place)
-awaits-blocks xs section table places a = ap (λ (s : Section). s .blocks) (a .section-is)
+pub stands-blocks : (xs : List ℕ) (section : Section) → Stands xs section → section .blocks ≡ blocks-at xs (section .place)
+stands-blocks xs section a = ap (λ (s : Section). s .blocks) (a .section-is)
 
-pub awaits-register : (xs : List ℕ) (section : Section) (table : List Slot) (places : List ℕ) → Awaits xs section table places → blocks-from xs (section .columns) (section .place + 2) (section .blocks) ≡ register-at xs (section .place)
+pub stands-register : (xs : List ℕ) (section : Section) → Stands xs section → blocks-from xs (section .columns) (section .place + 2) (section .blocks) ≡ register-at xs (section .place)
 unfolding register-at
-awaits-register xs section table places a =
-    ap₂ (λ (w n : ℕ). blocks-from xs w (section .place + 2) n) (awaits-columns xs section table places a) (awaits-blocks xs section table places a)
+stands-register xs section a =
+    ap₂ (λ (w n : ℕ). blocks-from xs w (section .place + 2) n) (stands-columns xs section a) (stands-blocks xs section a)
 
-pub awaits-fit : (xs : List ℕ) (section : Section) (table : List Slot) (places : List ℕ) → Awaits xs section table places → blocks-fit xs (section .columns) (section .place + 2) (section .blocks) ≡ true
-awaits-fit xs section table places a =
-    ap₂ (λ (w n : ℕ). blocks-fit xs w (section .place + 2) n) (awaits-columns xs section table places a) (awaits-blocks xs section table places a)
-    ∙ fit-from xs (section .place) (a .fits) .blocks
+-- its i-th block is there
+pub stands-inside : (xs : List ℕ) (section : Section) (i at : ℕ) → Stands xs section → at ≡ block-place xs (section .columns) (section .place + 2) i → i < section .blocks → Inside xs (section .columns) at
+stands-inside xs section i at a e l =
+    let fit : blocks-fit xs (section .columns) (section .place + 2) (section .blocks) ≡ true =
+    ap₂ (λ (w n : ℕ). blocks-fit xs w (section .place + 2) n) (stands-columns xs section a) (stands-blocks xs section a) ∙ fit-from xs (section .place) (a .fits) .blocks in
+    inside-from xs (section .columns) at (ap (block-fits xs (section .columns)) e ∙ block-fits-at xs (section .columns) (section .place + 2) (section .blocks) i fit l)
 
 -- what is known when i of n blocks from place p on are entered
 pub record Noting (xs : List ℕ) (w p n i at : ℕ) (table : List Slot) (places : List ℕ) : Type 0 where
@@ -104,15 +106,6 @@ noting-none xs w p n table places e l =
 module _ (xs : List ℕ) (w p n i at : ℕ) (table : List Slot) (places : List ℕ) (k : Noting xs w p n i at table places) where
   length-keys : length (keys-of (blocks-from xs w p i)) ≡ i
   length-keys = length-map (blocks-from xs w p i) (λ (b : Block). b .key) ∙ length-blocks-from xs w p i
-
-  -- the i-th block is there
-  pub noting-there : blocks-fit xs w p n ≡ true → i < n → block-fits xs w at ≡ true
-  noting-there f l = ap (block-fits xs w) (k .place) ∙ block-fits-at xs w p n i f l
-
-  pub noting-inside : (section : Section) (t : List Slot) (ps : List ℕ) → Awaits xs section t ps → w ≡ section .columns → p ≡ section .place + 2 → n ≡ section .blocks → i < n → Inside xs w at
-  noting-inside section t ps a e f g l =
-      inside-from xs w at
-      (noting-there (ap₂ (λ (v q : ℕ). blocks-fit xs v q n) e f ∙ ap (blocks-fit xs (section .columns) (section .place + 2)) g ∙ awaits-fit xs section t ps a) l)
 
   pub noting-open : i < n → n ≤ 4096 → Open table
   noting-open l m = holds-open table (keys-of (blocks-from xs w p i)) (k .keys) (omega (arith, length-keys, k .slots)) (omega (arith, k .slots))
@@ -177,12 +170,12 @@ module _ (xs : List ℕ) (w p n i at : ℕ) (table : List Slot) (places : List �
 pub entered-ends : (xs : List ℕ) (section : Section) (t table : List Slot) (ps places : List ℕ) (i at : ℕ) → Awaits xs section t ps → Noting xs (section .columns) (section .place + 2) (section .blocks) i at table places → section .blocks ≤ i → i ≤ section .blocks → (proper-register (register-at xs (section .place)) ≡ true) × Entered xs (section .place) table places
 entered-ends xs section t table ps places i at a k l m =
     let ends = noting-ends xs (section .columns) (section .place + 2) (section .blocks) i at table places k l m in
-    let same = awaits-register xs section t ps a in (
+    let same = stands-register xs section (a .stands) in (
       ap proper-register (sym same) ∙ ends .0,
       record {
         keys = subst (λ (bs : Register). Holds table (keys-of bs)) same (ends .1);
         noted = λ j l.
-            ends .2 j (omega (arith, awaits-blocks xs section t ps a))
-            ∙ ap (λ (w : ℕ). block-place xs w (section .place + 2) j) (awaits-columns xs section t ps a);
+            ends .2 j (omega (arith, stands-blocks xs section (a .stands)))
+            ∙ ap (λ (w : ℕ). block-place xs w (section .place + 2) j) (stands-columns xs section (a .stands));
       },
     )

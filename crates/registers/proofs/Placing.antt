@@ -22,7 +22,7 @@ use Rattle.registers.specs.declared.layout.Directory.{Directory}
 use Rattle.registers.specs.declared.table.Slot.{Slot}
 use Rattle.registers.specs.declared.refusals.Refusal.the-variants.{Layout, Blocks}
 use Rattle.registers.specs.Base.{proper-register}
-use Rattle.registers.specs.Indexing.{Awaits, Entered, Indexed, Room, table-place}
+use Rattle.registers.specs.Indexing.{Awaits, Entered, Indexed, Room, Stands, table-place}
 use Rattle.registers.specs.Layout.{blocks-at, blocks-before, columns-at, count-of, register-at, register-place}
 use Rattle.registers.specs.Refusals.{answered, count-fits, first-failing, misfit, misstated, or-else, refusal, refused-at, register-fits}
 use Rattle.registers.specs.Survey.{directory-of, no-section, section-at, section-of}
@@ -51,6 +51,23 @@ misfit-none xs h = go (count-fits xs) (first-failing (λ t. register-fits xs (re
     go true (Some t) rest p q e = let z : _≡_ {A = ℕ} 0 1 = cc in absurd (omega arith)
     go false o rest p q e = let z : _≡_ {A = ℕ} 0 1 = cc in absurd (omega arith)
 
+pub count-few : (xs : List ℕ) → count-fits xs ≡ true → count-of xs ≤ 8
+count-few xs h = grind (arith, tells)
+
+-- where all registers are there, they have at most 4,096 blocks each
+blocks-few-at : (xs : List ℕ) (n t : ℕ) → first-failing (λ i. register-fits xs (register-place xs i)) n ≡ None → t ≤ n → blocks-before xs t ≤ 4096 * t
+unfolding blocks-before
+blocks-few-at xs n zero e h = omega arith
+blocks-few-at xs n (suc t) e h =
+    let fit = fit-from xs (register-place xs t) (first-failing-none (λ i. register-fits xs (register-place xs i)) n t e (omega arith)) in
+    omega (arith, blocks-few-at xs n t e (omega arith), fit .few-blocks)
+
+pub blocks-few : (xs : List ℕ) → misfit xs ≡ None → (count-of xs ≤ 8) × (blocks-before xs (count-of xs) ≤ 32768)
+blocks-few xs e =
+    let fit = misfit-none xs e in
+    let few = count-few xs (fit .0) in
+    (few, omega (arith, blocks-few-at xs (count-of xs) (count-of xs) (fit .1) (omega arith)))
+
 -- the blocks before a register are among those before a later one
 pub blocks-before-up : (xs : List ℕ) (i t : ℕ) → i ≤ t → blocks-before xs i ≤ blocks-before xs t
 unfolding blocks-before
@@ -67,9 +84,6 @@ table-place-more xs t = omega (arith, blocks-before-more xs t)
 pub count-directory : (xs : List ℕ) → directory-of xs .count ≡ count-of xs
 unfolding directory-of
 count-directory xs = refl
-
-pub count-few : (xs : List ℕ) → count-fits xs ≡ true → count-of xs ≤ 8
-count-few xs h = grind (arith, tells)
 
 pub section-there : (xs : List ℕ) (t : ℕ) → t < count-of xs → count-of xs ≤ 8 → getD (directory-of xs .sections) t no-section ≡ section-of xs t
 unfolding directory-of
@@ -140,10 +154,14 @@ turn-at xs directory slots places t none surveyed a b l =
       there,
     )
 
+pub turn-stands : (xs : List ℕ) (t : ℕ) (section : Section) (m n : ℕ) → Turn xs t section m n → section ≡ section-of xs t → Stands xs section
+turn-stands xs t section m n u is =
+    record { fits = ap (register-fits xs) (u .place) ∙ u .fits; section-is = is ∙ ap₂ (section-at xs) (sym (u .place)) (sym (u .first)) }
+
 -- in a turn of the loop that fills the room
 pub turn : (xs : List ℕ) (directory : Directory) (slots : List Slot) (places : List ℕ) (m n t : ℕ) → Room xs directory slots places → t < directory .count → m ≡ length slots → n ≡ length places → Turn xs t (getD (directory .sections) t no-section) m n × (getD (directory .sections) t no-section ≡ section-of xs t)
 turn xs directory slots places m n t r l e f =
-    turn-at xs directory m n t (r .fits) (r .surveyed) (omega (arith, r .slots-enough)) (omega (arith, r .places-enough)) l
+    turn-at xs directory m n t (r .enough .fits) (r .enough .surveyed) (omega (arith, r .enough .slots-enough)) (omega (arith, r .enough .places-enough)) l
 
 pub placed-none : (xs : List ℕ) (directory : Directory) (slots : List Slot) (places : List ℕ) → Room xs directory slots places → Placed xs 0 slots places
 unfolding first-failing blocks-before
@@ -155,8 +173,7 @@ pub placed-awaits : (xs : List ℕ) (t : ℕ) (section : Section) (slots : List 
 placed-awaits xs t section slots places from to first last k u is e f g h =
     let at : from ≡ table-place xs t = omega (arith, u .first) in
     record {
-      fits = ap (register-fits xs) (u .place) ∙ u .fits;
-      section-is = is ∙ ap₂ (section-at xs) (sym (u .place)) (sym (u .first));
+      stands = turn-stands xs t section (length slots) (length places) u is;
       slots =
           ap₂ (λ (n a : ℕ). take n (drop a slots)) (omega arith) at
           ∙ ap (take (2 * section .blocks + 1)) (k .behind)
@@ -209,10 +226,10 @@ placed-ends xs directory old slots was places t r k e l m =
     let none : misstated xs ≡ None = ap (first-failing (λ i. proper-register (register-at xs (register-place xs i)))) (sym e) ∙ k .proper in (
       none,
       record {
-        sound = ap₂ (λ (a b : Option ℕ). or-else (refused-at Layout a) (refused-at Blocks b)) (r .fits) none;
-        surveyed = r .surveyed;
-        slots-enough = omega (arith, r .slots-enough);
-        places-enough = omega (arith, r .places-enough);
+        sound = ap₂ (λ (a b : Option ℕ). or-else (refused-at Layout a) (refused-at Blocks b)) (r .enough .fits) none;
+        surveyed = r .enough .surveyed;
+        slots-enough = omega (arith, r .enough .slots-enough);
+        places-enough = omega (arith, r .enough .places-enough);
         entered = λ i h. k .entered i (omega arith);
       },
     )

@@ -37,10 +37,14 @@ keys-of bs = map (λ b. b .key) bs
 abbrev pub table-place : List ℕ → ℕ → ℕ
 table-place xs t = 2 * blocks-before xs t + t
 
--- room for a register that is there: slots that are free, and places for its blocks
-pub record Awaits (xs : List ℕ) (section : Section) (table : List Slot) (places : List ℕ) : Type 0 where
+-- a register that is there
+pub record Stands (xs : List ℕ) (section : Section) : Type 0 where
   pub fits : register-fits xs (section .place) ≡ true
   pub section-is : section ≡ section-at xs (section .place) (section .first)
+
+-- room for a register that is there: slots that are free, and places for its blocks
+pub record Awaits (xs : List ℕ) (section : Section) (table : List Slot) (places : List ℕ) : Type 0 where
+  pub stands : Stands xs section
   pub slots : table ≡ replicate (2 * section .blocks + 1) free
   pub room : length places ≡ section .blocks
 
@@ -49,14 +53,18 @@ pub record Entered (xs : List ℕ) (p : ℕ) (table : List Slot) (places : List 
   pub keys : Holds table (keys-of (register-at xs p))
   pub noted : (i : ℕ) → i < blocks-at xs p → getD places i 0 ≡ block-place xs (columns-at xs p) (p + 2) i
 
--- room for all registers of a slice: the slots are free, the places are 0, and there are enough of both
-pub record Room (xs : List ℕ) (directory : Directory) (slots : List Slot) (places : List ℕ) : Type 0 where
+-- registers that are surveyed, and so many slots and places that all their blocks can be entered
+pub record Enough (xs : List ℕ) (directory : Directory) (slots places : ℕ) : Type 0 where
   pub fits : misfit xs ≡ None
   pub surveyed : directory ≡ directory-of xs
+  pub slots-enough : 2 * blocks-before xs (count-of xs) + count-of xs ≤ slots
+  pub places-enough : blocks-before xs (count-of xs) ≤ places
+
+-- room for all registers of a slice: enough of both, the slots free, and the places 0
+pub record Room (xs : List ℕ) (directory : Directory) (slots : List Slot) (places : List ℕ) : Type 0 where
+  pub enough : Enough xs directory (length slots) (length places)
   pub slots-free : slots ≡ replicate (length slots) free
-  pub slots-enough : 2 * blocks-before xs (count-of xs) + count-of xs ≤ length slots
   pub places-free : places ≡ replicate (length places) 0
-  pub places-enough : blocks-before xs (count-of xs) ≤ length places
 
 -- registers of which none is refused, all entered
 pub record Indexed (xs : List ℕ) (directory : Directory) (slots : List Slot) (places : List ℕ) : Type 0 where

@@ -2,6 +2,7 @@
 pub mod Base
 pub mod Layout
 pub mod Refusals
+pub mod Answers
 pub mod Survey
 pub mod Table
 pub mod Indexing

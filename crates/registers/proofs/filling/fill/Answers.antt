@@ -106,6 +106,6 @@ loop-t-again c =
 
 pub returns : need.returns
 returns c =
-    let count : c .args .directory .now .count ≡ count-of (c .args .base .now) = ap (λ (d : Directory). d .count) (c .pre .surveyed) ∙ count-directory (c .args .base .now) in
+    let count : c .args .directory .now .count ≡ count-of (c .args .base .now) = ap (λ (d : Directory). d .count) (c .pre .enough .surveyed) ∙ count-directory (c .args .base .now) in
     let ends = placed-ends _ _ _ _ _ _ (c .loop-t .t) (c .pre) (c .loop-t .inv) (omega arith) (c .loop-t .kept .slots) (c .loop-t .kept .places) in
     record { answer = told-ok Blocks _ _ _ (ends .0) refl; room = ends .1 }

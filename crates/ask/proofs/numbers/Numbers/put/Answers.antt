@@ -1,0 +1,21 @@
+use native.Mathlib.Omega.{arith}
+use mathlib.Core.Path.{_≡_, refl, sym, ap, _∙_}
+use lib.ListN.{length}
+use Rattle.ask.proofs.Parts.{added-byte, added-number}
+use Rattle.ask.proofs.numbers.Numbers.put.Needs as need
+
+pub returns-in-Continue-push-2 : need.returns-in-Continue-push-2
+returns-in-Continue-push-2 c =
+    added-number _ _ _ (c .args .self .now) _
+    (sym (c .as-slice-rest .ensures .value ∙ c .in-Continue-push .ensures tt .items))
+    (c .if-rest-eq4 .taken)
+    (c .number-number .ensures)
+    (c .in-Continue-push-2 .ensures tt .items)
+    (c .clear .ensures .items)
+
+pub returns-else-rest-eq4 : need.returns-else-rest-eq4
+returns-else-rest-eq4 c =
+    added-byte _ (c .args .self .now) _
+    (c .in-Continue-push .ensures tt .items)
+    (λ e. c .if-rest-eq4 .left (ap length (c .as-slice-rest .ensures .value) ∙ e))
+    refl

@@ -1,0 +1,38 @@
+// Numbers from a file or from standard input.
+use crate::numbers::Numbers;
+use std::alloc::Global;
+use std::fs;
+use std::io;
+use std::io::Read;
+
+// How many bytes are read at a time.
+const PART: usize = 65536;
+
+// The numbers of the named file.
+pub fn from_file(rt: &LibcRuntime, name: &str) -> io::Result<Numbers> {
+    let mut file = fs::open(rt, name)?;
+    read_all(rt.alloc(), &mut file)
+}
+
+// The numbers of standard input.
+pub fn from_stdin(rt: &LibcRuntime) -> io::Result<Numbers> {
+    read_all(rt.alloc(), &mut rt.stdin())
+}
+
+// The numbers of all bytes that the source gives. Bytes at the end that are too few for a number are left out.
+fn read_all<R: Read>(heap: Global, source: &mut R) -> io::Result<Numbers> {
+    let mut numbers = Numbers::new(heap);
+    let mut part = [0u8; PART];
+    for _ in 0..u64::MAX {
+        let len = match source.read(&mut part) {
+            Ok(len) => len,
+            Err(e) if e.kind() == io::ErrorKind::Interrupted => continue,
+            Err(e) => return Err(e),
+        };
+        if len == 0 {
+            return Ok(numbers);
+        }
+        numbers.add(&part[0..len])?;
+    }
+    Err(io::Error::from(io::ErrorKind::FileTooLarge))
+}

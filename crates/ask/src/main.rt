@@ -1,13 +1,12 @@
 // Reads registers from the file that the argument names, or from standard input, and says what stands in them, or why
 // they are refused.
 mod failure;
-mod input;
 mod lines;
-mod numbers;
 
 use failure::Failure;
 use failure::FailureDisplay;
-use numbers::Numbers;
+use input::numbers::Numbers;
+use input::source;
 use std::env;
 
 // What the registers say, told on standard output.
@@ -31,11 +30,11 @@ fn read(rt: &LibcRuntime) -> Result<Numbers, Failure> {
         return Err(Failure::Usage);
     }
     match file {
-        Some(name) => match input::from_file(rt, name.as_str()) {
+        Some(name) => match source::from_file(rt, name.as_str()) {
             Ok(numbers) => Ok(numbers),
             Err(reason) => Err(Failure::File { name, reason }),
         },
-        None => match input::from_stdin(rt) {
+        None => match source::from_stdin(rt) {
             Ok(numbers) => Ok(numbers),
             Err(reason) => Err(Failure::Stdin { reason }),
         },

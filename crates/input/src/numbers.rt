@@ -3,7 +3,7 @@ ghost use mathlib.Core.Path.{_≡_};
 ghost use mathlib.Core.List.{[], _∷_};
 ghost use Rattle.std.specs.Of.Vec.{vec-items};
 ghost use Rattle.std.specs.Vec.{made};
-ghost use Rattle.ask.specs.Numbers.{Added, Holds, number-of, numbers-of};
+ghost use Rattle.input.specs.Numbers.{Added, Holds, number-of, numbers-of};
 use std::alloc::AllocError;
 use std::alloc::Global;
 
@@ -23,14 +23,13 @@ pub struct Numbers {
 }
 
 impl Numbers {
-    // Those of no bytes.
-    pub fn new(heap: Global) -> Numbers
-        ensures { λ r. ⌜ Holds [] r ⌝ }
+    // Those of no bytes, with room for so many numbers; more are taken all the same.
+    pub fn with_room(heap: Global, room: usize) -> Result<Numbers, AllocError>
+        ensures { λ r. ⌜ made r (λ n. Holds [] n) ⌝ }
     {
-        Numbers {
-            items: Vec::new(heap),
-            rest: Vec::new(heap),
-        }
+        let items = Vec::with_capacity(heap, room)?;
+        let rest = Vec::new(heap);
+        Ok(Numbers { items, rest })
     }
 
     // The numbers that are complete.
@@ -80,7 +79,7 @@ mod tests {
 
     // The numbers of two parts are as listed.
     fn expect(rt: &LibcRuntime, first: &[u8], second: &[u8], listed: &[u64]) -> Result<(), Fail> {
-        let mut numbers = Numbers::new(rt.alloc());
+        let mut numbers = Numbers::with_room(rt.alloc(), 0)?;
         numbers.add(first)?;
         numbers.add(second)?;
         check_eq(numbers.as_slice(), listed)

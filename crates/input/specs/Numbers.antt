@@ -3,7 +3,7 @@ use mathlib.Core.Path.{_≡_}
 use mathlib.Core.List.{List, [], _∷_, _++_}
 use Prim.Native.Nat.{ℕ, _+_, _*_}
 use Rattle.std.specs.Of.Vec.{vec-items}
-use Rattle.ask.specs.declared.numbers.Numbers.{Numbers}
+use Rattle.input.specs.declared.numbers.Numbers.{Numbers}
 
 -- the number that four bytes stand for, the low byte first
 abbrev pub number-of : (a b c d : ℕ) → ℕ

@@ -1,8 +1,8 @@
 use native.Mathlib.Omega.{arith}
 use mathlib.Core.Path.{_≡_, refl, sym, ap, _∙_}
 use lib.ListN.{length}
-use Rattle.ask.proofs.Parts.{added-byte, added-number}
-use Rattle.ask.proofs.numbers.Numbers.put.Needs as need
+use Rattle.input.proofs.Parts.{added-byte, added-number}
+use Rattle.input.proofs.numbers.Numbers.put.Needs as need
 
 pub returns-in-Continue-push-2 : need.returns-in-Continue-push-2
 returns-in-Continue-push-2 c =

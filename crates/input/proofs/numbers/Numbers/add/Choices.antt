@@ -1,7 +1,7 @@
 use Prim.Native.Nat.{_-_, _≤_}
 use lib.ListN.{length, take}
-use Rattle.ask.specs.Numbers.{Added}
-use Rattle.ask.proofs.numbers.Numbers.add.Given as given
+use Rattle.input.specs.Numbers.{Added}
+use Rattle.input.proofs.numbers.Numbers.add.Given as given
 
 abbrev pub Inv-loop-at : given.InvT-loop-at
 Inv-loop-at l = (l .at ≤ length (l .part)) × Added (take (l .at) (l .part)) (l .entry .self) (l .self)

@@ -1,6 +1,6 @@
 use mathlib.Core.Path.{_≡_}
 use lib.ListN.{length}
-use Rattle.ask.proofs.input.read_all.Given as given
+use Rattle.input.proofs.source.read_all.Given as given
 
 -- the room for a part stays as long as it is
 abbrev pub Inv-loop : given.InvT-loop

@@ -1,6 +1,5 @@
-// Numbers from a file or from standard input.
+// Numbers from a file or from standard input. Bytes at the end that are too few for a number are left out.
 use crate::numbers::Numbers;
-use std::alloc::Global;
 use std::fs;
 use std::io;
 use std::io::Read;
@@ -11,17 +10,19 @@ const PART: usize = 65536;
 // The numbers of the named file.
 pub fn from_file(rt: &LibcRuntime, name: &str) -> io::Result<Numbers> {
     let mut file = fs::open(rt, name)?;
-    read_all(rt.alloc(), &mut file)
+    let room = file.metadata()?.len() / 4;
+    let numbers = Numbers::with_room(rt.alloc(), room as usize)?;
+    read_all(&mut file, numbers)
 }
 
 // The numbers of standard input.
 pub fn from_stdin(rt: &LibcRuntime) -> io::Result<Numbers> {
-    read_all(rt.alloc(), &mut rt.stdin())
+    let numbers = Numbers::with_room(rt.alloc(), 0)?;
+    read_all(&mut rt.stdin(), numbers)
 }
 
-// The numbers of all bytes that the source gives. Bytes at the end that are too few for a number are left out.
-fn read_all<R: Read>(heap: Global, source: &mut R) -> io::Result<Numbers> {
-    let mut numbers = Numbers::new(heap);
+// Adds all bytes that the source gives.
+fn read_all<R: Read>(source: &mut R, mut numbers: Numbers) -> io::Result<Numbers> {
     let mut part = [0u8; PART];
     for _ in 0..u64::MAX {
         let len = match source.read(&mut part) {

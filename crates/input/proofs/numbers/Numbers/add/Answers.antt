@@ -3,8 +3,8 @@ use mathlib.Core.Path.{refl}
 use Prim.Native.Nat.{_+_, _≤_}
 use lib.ListN.{length}
 use Rattle.std.proofs.shelf.Lists.{take-all, take-more}
-use Rattle.ask.proofs.Parts.{added-four, added-more, take-four}
-use Rattle.ask.proofs.numbers.Numbers.add.Needs as need
+use Rattle.input.proofs.Parts.{added-four, added-more, take-four}
+use Rattle.input.proofs.numbers.Numbers.add.Needs as need
 
 pub loop-at-again-then-part-at-ge4 : need.loop-at-again-then-part-at-ge4
 loop-at-again-then-part-at-ge4 c =

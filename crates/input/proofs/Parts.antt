@@ -10,8 +10,8 @@ use lib.ListN.{length, getD, take}
 use Rattle.std.specs.Of.Vec.{vec-items, vec-len}
 use Rattle.std.proofs.shelf.Lists.{append-assoc, append-nil, length-push, nil-from-length, places, same-lists}
 use Rattle.std.proofs.shelf.Tests.{eqb-true}
-use Rattle.ask.specs.declared.numbers.Numbers.{Numbers}
-use Rattle.ask.specs.Numbers.{Added, Holds, number-of, numbers-of, rest-of}
+use Rattle.input.specs.declared.numbers.Numbers.{Numbers}
+use Rattle.input.specs.Numbers.{Added, Holds, number-of, numbers-of, rest-of}
 
 -- the numbers of two parts: those of the first, and those of its rest with the second
 numbers-append : (xs ys : List ℕ) → numbers-of (xs ++ ys) ≡ numbers-of xs ++ numbers-of (rest-of xs ++ ys)

@@ -97,6 +97,8 @@ run "$work" </dev/null
 expect_failure "a folder in place of a file" "$work" "Is a directory"
 run "$example" "$example" </dev/null
 expect_failure "two arguments" "usage: ask [FILE]"
+run $'\xff' </dev/null
+expect_failure "an argument that is no text" "arguments"
 run <&-
 expect_failure "no standard input" "standard input"
 

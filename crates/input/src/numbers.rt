@@ -3,9 +3,12 @@ ghost use mathlib.Core.Path.{_≡_};
 ghost use mathlib.Core.List.{[], _∷_};
 ghost use Rattle.std.specs.Of.Vec.{vec-items};
 ghost use Rattle.std.specs.Vec.{made};
-ghost use Rattle.input.specs.Numbers.{Added, Holds, number-of, numbers-of};
+ghost use Rattle.input.specs.Numbers.{Added, Holds, number-of};
 use std::alloc::AllocError;
 use std::alloc::Global;
+
+// How many bytes a number has.
+pub const WIDTH: usize = 4;
 
 // The number that four bytes stand for.
 fn number(a: u8, b: u8, c: u8, d: u8) -> u64
@@ -39,13 +42,13 @@ impl Numbers {
         self.items.as_slice()
     }
 
-    // Adds one byte.
+    // Adds one byte: to the rest, and the rest to the numbers where it is one.
     fn put(&mut self, byte: u8) -> Result<(), AllocError>
         ensures { λ r. ⌜ made r (λ _. Added (byte ∷ []) (now (self .entry)) (now (self .exit))) ⌝ }
     {
         self.rest.push(byte)?;
         let rest = self.rest.as_slice();
-        if rest.len() == 4 {
+        if rest.len() == WIDTH {
             let number = number(rest[0], rest[1], rest[2], rest[3]);
             self.items.push(number)?;
             self.rest.clear();
@@ -53,16 +56,16 @@ impl Numbers {
         Ok(())
     }
 
-    // Adds a part.
+    // Adds a part: four bytes at a time, but one at a time where it begins or ends in the middle of a number.
     pub fn add(&mut self, part: &[u8]) -> Result<(), AllocError>
         ensures { λ r. ⌜ made r (λ _. Added (now (part .entry)) (now (self .entry)) (now (self .exit))) ⌝ }
     {
         let mut at = 0;
         while at < part.len() {
-            if self.rest.is_empty() && part.len() - at >= 4 {
+            if self.rest.is_empty() && part.len() - at >= WIDTH {
                 let number = number(part[at], part[at + 1], part[at + 2], part[at + 3]);
                 self.items.push(number)?;
-                at += 4;
+                at += WIDTH;
             } else {
                 self.put(part[at])?;
                 at += 1;

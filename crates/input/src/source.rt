@@ -1,5 +1,6 @@
 // Numbers from a file or from standard input. Bytes at the end that are too few for a number are left out.
 use crate::numbers::Numbers;
+use crate::numbers::WIDTH;
 use std::fs;
 use std::io;
 use std::io::Read;
@@ -10,8 +11,8 @@ const PART: usize = 65536;
 // The numbers of the named file.
 pub fn from_file(rt: &LibcRuntime, name: &str) -> io::Result<Numbers> {
     let mut file = fs::open(rt, name)?;
-    let room = file.metadata()?.len() / 4;
-    let numbers = Numbers::with_room(rt.alloc(), room as usize)?;
+    let room = file.metadata()?.len() as usize / WIDTH;
+    let numbers = Numbers::with_room(rt.alloc(), room)?;
     read_all(&mut file, numbers)
 }
 

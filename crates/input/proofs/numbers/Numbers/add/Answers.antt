@@ -6,8 +6,8 @@ use Rattle.std.proofs.shelf.Lists.{take-all, take-more}
 use Rattle.input.proofs.Parts.{added-four, added-more, take-four}
 use Rattle.input.proofs.numbers.Numbers.add.Needs as need
 
-pub loop-at-again-then-part-at-ge4 : need.loop-at-again-then-part-at-ge4
-loop-at-again-then-part-at-ge4 c =
+pub loop-at-again-then-part-at-ge-WIDTH : need.loop-at-again-then-part-at-ge-WIDTH
+loop-at-again-then-part-at-ge-WIDTH c =
     let inside : c .loop-at .at + 4 ≤ length (c .args .part .now) = omega arith in
     let more = added-four _ _ _ _ _ (c .loop-at .self) _ (c .if-is-empty .ensures tt) (c .number-number .ensures) (c .in-Continue-push .ensures tt .items) refl in
     (inside, added-more _ _ _ _ _ _ (take-four (c .args .part .now) (c .loop-at .at) inside) (c .loop-at .inv .1) more)

@@ -11,15 +11,22 @@ const PART: usize = 65536;
 // The numbers of the named file.
 pub fn from_file(rt: &LibcRuntime, name: &str) -> io::Result<Numbers> {
     let mut file = fs::open(rt, name)?;
-    let room = file.metadata()?.len() as usize / WIDTH;
-    let numbers = Numbers::with_room(rt.alloc(), room)?;
+    let numbers = Numbers::with_room(rt.alloc(), room(file.metadata()))?;
     read_all(&mut file, numbers)
 }
 
 // The numbers of standard input.
 pub fn from_stdin(rt: &LibcRuntime) -> io::Result<Numbers> {
-    let numbers = Numbers::with_room(rt.alloc(), 0)?;
+    let numbers = Numbers::with_room(rt.alloc(), room(fs::metadata(rt, "/dev/stdin")))?;
     read_all(&mut rt.stdin(), numbers)
+}
+
+// How many numbers a file has, or 0 where its size is not known, as that of a pipe.
+fn room(known: io::Result<fs::Metadata>) -> usize {
+    match known {
+        Ok(metadata) => metadata.len() as usize / WIDTH,
+        Err(_) => 0,
+    }
 }
 
 // Adds all bytes that the source gives.

@@ -23,7 +23,7 @@ verdict() {
         failed=1
         echo "FAILED: $name: $difference"
         echo "  status: $status"
-        sed 's/^/  stdout: /' "$work/out"
+        sed 's/^/  stdout: /' "$work/out" | cat -v
         sed 's/^/  stderr: /' "$work/err"
     fi
 }
@@ -72,6 +72,14 @@ answer=$(cat "$here/crates/ask/stdout")
 
 # The first call may build the program, and says so on standard error; the others must not.
 "$ask" "$example" >/dev/null || failed=1
+
+status=0
+python3 -B -c 'import sys; sys.path.insert(0, sys.argv[1]); import make; sys.stdout.buffer.write(make.packed(make.SLUICES))' \
+    "$here/examples" >"$work/out" 2>"$work/err"
+difference=
+cmp -s "$work/out" "$example" || difference="examples/sluices.bin is not what make.py writes"
+cmp -s "$example" "$here/crates/ask/stdin" || difference="crates/ask/stdin is not the example"
+verdict "the example is what its table says" "$difference"
 
 run "$example" </dev/null
 expect_answer "the example as a file" "$answer"

@@ -10,3 +10,4 @@ pub mod Placing
 pub mod Views
 pub mod Finding
 pub mod Checking
+pub mod Limits

@@ -51,6 +51,9 @@ misfit-none xs h = go (count-fits xs) (first-failing (λ t. register-fits xs (re
     go true (Some t) rest p q e = let z : _≡_ {A = ℕ} 0 1 = cc in absurd (omega arith)
     go false o rest p q e = let z : _≡_ {A = ℕ} 0 1 = cc in absurd (omega arith)
 
+pub count-some : (xs : List ℕ) → count-fits xs ≡ true → 1 ≤ count-of xs
+count-some xs h = grind (arith, tells)
+
 pub count-few : (xs : List ℕ) → count-fits xs ≡ true → count-of xs ≤ 8
 count-few xs h = grind (arith, tells)
 

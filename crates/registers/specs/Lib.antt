@@ -7,3 +7,5 @@ pub mod Survey
 pub mod Table
 pub mod Indexing
 pub mod Views
+pub mod Limits
+pub mod Example

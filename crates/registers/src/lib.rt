@@ -11,6 +11,7 @@ pub mod layout;
 mod lookup;
 pub mod refusals;
 pub mod table;
+pub mod theorems;
 
 pub use entry::check;
 pub use entry::look_up;

@@ -1,6 +1,6 @@
 // What the program prints of registers, line by line.
-use registers::layout::Section;
-use registers::layout::survey;
+use crate::summary::Summary;
+use crate::summary::summarize;
 use registers::refusals::Refusal;
 use std::fmt;
 use std::io;
@@ -37,37 +37,53 @@ impl fmt::Display for Count as CountDisplay {
     }
 }
 
-// How large a register is.
+// How large a register is, and under how many of its keys the boards say different things.
 #[derive(Drop)]
 struct RegisterLine {
     register: usize,
-    section: Section,
+    summary: Summary,
 }
 
 impl fmt::Display for RegisterLine as RegisterLineDisplay {
     fn fmt<W: fmt::Write>(&self, f: &mut fmt::Formatter<W>) -> fmt::Result {
         let register = self.register;
-        let blocks = Count {
-            number: self.section.blocks,
-            word: "block",
+        let keys = Count {
+            number: self.summary.blocks,
+            word: "key",
         };
         let columns = Count {
-            number: self.section.columns,
+            number: self.summary.columns,
             word: "column",
         };
-        write!(f, "register {register}: {blocks}, {columns}")
+        let rows = Count {
+            number: self.summary.rows,
+            word: "row",
+        };
+        let contested = Count {
+            number: self.summary.contested,
+            word: "key",
+        };
+        let have = if self.summary.contested == 1 {
+            "has"
+        } else {
+            "have"
+        };
+        write!(
+            f,
+            "register {register}: {keys}, {columns}, {rows}; {contested} {have} more than one row"
+        )
     }
 }
 
 // Writes a line for each register, or the one line of their refusal.
 pub fn tell<W: Write + Drop>(out: W, base: &[u64]) -> io::Result<()> {
     let mut out = BufWriter::new(out);
-    match survey(base) {
-        Ok(directory) => {
-            let sections = directory.sections.iter().enumerate();
-            for (register, section) in sections.take(directory.count) {
-                let section = *section;
-                writeln!(out, "{}", RegisterLine { register, section })?;
+    match summarize(base) {
+        Ok(report) => {
+            let summaries = report.registers.iter().enumerate();
+            for (register, summary) in summaries.take(report.count) {
+                let summary = *summary;
+                writeln!(out, "{}", RegisterLine { register, summary })?;
             }
         }
         Err(refusal) => writeln!(out, "{}", RefusalLine { refusal })?,

@@ -2,6 +2,7 @@
 // they are refused.
 mod failure;
 mod lines;
+mod summary;
 
 use failure::Failure;
 use failure::FailureDisplay;

@@ -2,8 +2,12 @@
 use mathlib.Core.Path.{_≡_, refl, sym, ap, subst, _∙_}
 use mathlib.Core.Bool.{Bool, true, false, _&&_, not}
 use mathlib.Core.List.{List, [], _∷_, map}
-use mathlib.Core.Logic.{⊎-elim}
+use mathlib.Core.Logic.{∥∥₁-elim, ⊎-elim}
 use Prim.Native.Nat.{ℕ, zero, suc, _+_, _-_, _*_, _^_, _≤_, _<_}
+use base.Stored.{codedBool, codedℕ}
+use denote.Ref.{now}
+use denote.Struct.Props.{≡-prop}
+use native.Mathlib.Bridge.{le-prop}
 use native.Mathlib.Nat.{mul-le-mul-right}
 use native.Mathlib.Numerals.{add-one}
 use native.Mathlib.Omega.{arith}
@@ -16,6 +20,7 @@ use Rattle.std.proofs.shelf.Counted.{length-map-counting}
 use Rattle.std.proofs.shelf.Edits.{getD-between, length-between}
 use Rattle.std.proofs.shelf.Lists.{getD-drop, getD-take, length-drop, length-take}
 use Rattle.std.proofs.shelf.Tests.{and-from, and-parts, cases-eq, ltb-true}
+use Rattle.registers.specs.declared.index.Index.{Index}
 use Rattle.registers.specs.Base.{Base, Block, Register, has-key, proper, proper-register, register}
 use Rattle.registers.specs.Layout.{base-of, block-at, block-end, block-place, blocks-at, columns-at, columns-of, count-of, register-at, register-end, register-place, row-at, rows-from}
 use Rattle.registers.specs.Limits.{Limits-hold, Within, block-in}
@@ -63,7 +68,7 @@ record Known (xs : List ℕ) (t i at : ℕ) : Type 0 where
   inside : Inside xs (columns-at xs (register-place xs t)) at
   ends : at + 2 + getD xs (at + 1) 0 * columns-at xs (register-place xs t) ≤ register-end xs (register-place xs t)
 
-length-base : (xs : List ℕ) → length (base-of xs) ≡ count-of xs
+pub length-base : (xs : List ℕ) → length (base-of xs) ≡ count-of xs
 unfolding base-of
 length-base xs = length-map-counting (λ t. register-at xs (register-place xs t)) 0 (count-of xs)
 
@@ -169,3 +174,23 @@ limits-hold xs e =
       small-keys = λ t i h l. key-small xs t i (place t i) (known xs t i e h l);
       small-cells = λ t i j c h l m n. cell-small xs t i (place t i) (known xs t i e h l) j c (omega (arith, rows t i h l)) (omega (arith, columns t h));
     }
+
+-- an index stands over such registers
+Within-prop : (xs : List ℕ) → IsProp (Within xs)
+Within-prop xs p q = λ i.
+    record {
+      some-register = le-prop (p .some-register) (q .some-register) i;
+      few-registers = le-prop (p .few-registers) (q .few-registers) i;
+      one-block-a-key = ≡-prop codedBool _ _ (p .one-block-a-key) (q .one-block-a-key) i;
+      some-column = λ t h. le-prop (p .some-column t h) (q .some-column t h) i;
+      few-columns = λ t h. le-prop (p .few-columns t h) (q .few-columns t h) i;
+      few-blocks = λ t h. le-prop (p .few-blocks t h) (q .few-blocks t h) i;
+      some-row = λ t j h l. le-prop (p .some-row t j h l) (q .some-row t j h l) i;
+      few-rows = λ t j h l. le-prop (p .few-rows t j h l) (q .few-rows t j h l) i;
+      wide-rows = λ t j k h l m. ≡-prop codedℕ _ _ (p .wide-rows t j k h l m) (q .wide-rows t j k h l m) i;
+      small-keys = λ t j h l. le-prop (p .small-keys t j h l) (q .small-keys t j h l) i;
+      small-cells = λ t j k c h l m n. le-prop (p .small-cells t j k c h l m n) (q .small-cells t j k c h l m n) i;
+    }
+
+pub index-within : (ix : Index) → Within (now (ix .base))
+index-within ix = ∥∥₁-elim (ix .sound) (Within-prop (now (ix .base))) (λ k. limits-hold (now (ix .base)) (k .sound))

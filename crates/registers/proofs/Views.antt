@@ -2,6 +2,7 @@
 use mathlib.Core.Path.{_≡_, refl, sym, ap, ap₂, _∙_}
 use mathlib.Core.Bool.{true}
 use mathlib.Core.List.{List, [], _∷_, map}
+use mathlib.Core.Logic.{⊎-elim}
 use Prim.Native.Nat.{ℕ, _+_, _-_, _*_, _≤_, _<_}
 use native.Mathlib.Nat.{mul-le-mul-right}
 use native.Mathlib.Omega.{arith}
@@ -10,7 +11,8 @@ use Rattle.std.specs.Holes.{between}
 use Rattle.std.specs.Iters.{counting}
 use Rattle.std.proofs.shelf.Counted.{fill-by-all, getD-map-counting, length-map-counting}
 use Rattle.std.proofs.shelf.Lists.{drop-drop, drop-take, getD-past, take-take}
-use Rattle.registers.specs.Base.{Block, Register, Row, register}
+use Rattle.std.proofs.shelf.Tests.{cases-lt}
+use Rattle.registers.specs.Base.{Base, Block, Register, Row, register}
 use Rattle.registers.specs.Layout.{base-of, block-at, block-place, blocks-at, blocks-from, columns-at, columns-of, count-of, register-at, register-place, row-at, rows-from}
 use Rattle.registers.specs.Views.{block}
 use Rattle.registers.proofs.Noting.{length-blocks-from, length-rows-from}
@@ -31,6 +33,13 @@ columns-there xs t h = getD-map-counting (λ i. columns-at xs (register-place xs
 pub columns-beyond : (xs : List ℕ) (t : ℕ) → count-of xs ≤ t → getD (columns-of xs) t 0 ≡ 0
 unfolding columns-of
 columns-beyond xs t h = getD-past _ t 0 (omega (arith, length-map-counting (λ i. columns-at xs (register-place xs i)) 0 (count-of xs)))
+
+-- a register that has a block is one of them
+pub register-inside : (b : Base) (t i : ℕ) → i < length (register b t) → t < length b
+register-inside b t i h =
+    ⊎-elim (λ below. below)
+    (λ beyond. absurd (let none : length (register b t) ≡ 0 = ap length (getD-past b t [] beyond) in omega arith))
+    (cases-lt t (length b))
 
 -- its blocks
 pub length-register : (xs : List ℕ) (p : ℕ) → length (register-at xs p) ≡ blocks-at xs p

@@ -1,0 +1,2 @@
+-- What the program tells of registers.
+pub mod Summary

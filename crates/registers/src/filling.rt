@@ -37,7 +37,8 @@ fn enter_blocks(base: &[u64], section: Section, table: &mut [Slot], places: &mut
         let key = base[at];
         let rows = base[at + 1] as usize;
         let slot = probe(table, key);
-        if rows == 0 || table[slot].entry != 0 {
+        let met = table[slot].entry;
+        if rows == 0 || met != 0 {
             return false;
         }
         table[slot] = Slot { key, entry: i + 1 };

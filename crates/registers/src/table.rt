@@ -24,7 +24,7 @@ fn home(key: u64, slots: usize) -> usize
 }
 
 // The key's own slot or the first free one on its way.
-pub fn probe(table: &[Slot], key: u64) -> usize
+pub(crate) fn probe(table: &[Slot], key: u64) -> usize
     requires { ⌜ Open (now table) ⌝ }
     ensures { λ r. ⌜ Probed (now (table .entry)) key r ⌝ }
 {

@@ -7,7 +7,7 @@ use Rattle.registers.specs.Layout.{block-end}
 use Rattle.registers.proofs.Fitting.{fit-from}
 use Rattle.registers.proofs.Noting.{entered-ends, noting-more, noting-none, noting-open, noting-stops, stands-blocks, stands-inside, stands-register}
 use Rattle.registers.proofs.filling.enter_blocks.Needs as need
-use Rattle.registers.proofs.filling.enter_blocks.Needs.{then-rows-eq0·by·then-rows-eq0, then-rows-eq0·by·else-rows-eq0·then-table-slot-ne0}
+use Rattle.registers.proofs.filling.enter_blocks.Needs.{then-rows-eq0·by·then-rows-eq0, then-rows-eq0·by·else-rows-eq0·then-met-ne0}
 
 pub add-at : need.add-at
 add-at c = omega (arith, fit-from _ _ (c .pre .stands .fits) .heading)
@@ -50,7 +50,7 @@ returns-then-rows-eq0 c =
     record {
       proper = sym (ap proper-register (sym (stands-register _ _ (c .pre .stands)))
           ∙ noting-stops _ _ _ _ _ _ _ _ (c .loop-i .inv) (c .probe-slot .result) (c .loop-i-test .taken) (c .probe-slot .ensures)
-          (elim (c .then-rows-eq0 .came) [ then-rows-eq0·by·then-rows-eq0 w ↦ inl (w .if-rows-eq0 .taken) | then-rows-eq0·by·else-rows-eq0·then-table-slot-ne0 w ↦ inr (w .if-table-slot-ne0 .taken) ]));
+          (elim (c .then-rows-eq0 .came) [ then-rows-eq0·by·then-rows-eq0 w ↦ inl (w .if-rows-eq0 .taken) | then-rows-eq0·by·else-rows-eq0·then-met-ne0 w ↦ inr (w .if-met-ne0 .taken) ]));
       entered = λ e. absurd (true≢false (sym e));
     }
 
@@ -62,7 +62,7 @@ mul-at c =
 pub loop-i-again : need.loop-i-again
 unfolding block-end
 loop-i-again c =
-    noting-more _ _ _ _ _ _ _ _ (c .loop-i .inv) (c .probe-slot .result) (c .loop-i-test .taken) (c .probe-slot .ensures) (c .if-table-slot-ne0 .left) (c .if-rows-eq0 .left)
+    noting-more _ _ _ _ _ _ _ _ (c .loop-i .inv) (c .probe-slot .result) (c .loop-i-test .taken) (c .probe-slot .ensures) (c .if-met-ne0 .left) (c .if-rows-eq0 .left)
 
 pub add-at-in-loop-i : need.add-at-in-loop-i
 add-at-in-loop-i c =

@@ -2,6 +2,8 @@
 #[cfg(test)]
 mod bases;
 #[cfg(test)]
+mod indexes;
+#[cfg(test)]
 mod lookups;
 #[cfg(test)]
 mod refusals;

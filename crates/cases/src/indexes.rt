@@ -1,7 +1,7 @@
 // Going over registers by an index.
 ghost use Rattle.registers.specs.Indexing.{Indexed};
 use crate::bases::COLLIDING;
-use crate::bases::SLUICES;
+use crate::bases::sluices;
 use crate::bases::under_keys;
 use registers::filling::fill;
 use registers::index::Index;
@@ -12,25 +12,6 @@ use registers::refusals::RefusalDebug;
 use registers::table::Slot;
 use std::alloc::Global;
 use std::test::*;
-
-// How many blocks and columns a register has.
-#[derive(Clone, Copy)]
-struct Size {
-    blocks: usize,
-    columns: usize,
-}
-
-impl Size {
-    // A register that is not there.
-    const NONE: Size = Size {
-        blocks: 0,
-        columns: 0,
-    };
-
-    fn new(blocks: usize, columns: usize) -> Size {
-        Size { blocks, columns }
-    }
-}
 
 // Under each key that the index gives, its rows are those that are looked up.
 fn check_register(heap: Global, base: &[u64], index: &Index, register: usize) -> Result<(), Fail> {
@@ -47,56 +28,50 @@ fn check_register(heap: Global, base: &[u64], index: &Index, register: usize) ->
     check_eq(index.find(register, 0), None)
 }
 
-// The index in filled room agrees with what is looked up, and each register is as large as given.
+// The index in filled room agrees with what is looked up, and each register has so many blocks and columns.
 fn check_filled<'a>(
     heap: Global,
     base: &'a [u64],
     directory: &'a Directory,
     slots: &'a [Slot],
     places: &'a [usize],
-    sizes: [Size; 4],
+    blocks: [usize; 4],
+    columns: [usize; 4],
 ) -> Result<(), Fail>
     requires { ⌜ Indexed (now base) (now directory) (now slots) (now places) ⌝ }
 {
     let index = Index::over(base, directory, slots, places);
     for register in 0..4 {
-        check_eq(index.blocks(register), sizes[register].blocks)?;
-        check_eq(index.columns(register), sizes[register].columns)?;
+        check_eq(index.blocks(register), blocks[register])?;
+        check_eq(index.columns(register), columns[register])?;
         check_register(heap, base, &index, register)?;
     }
     Ok(())
 }
 
 // So does the index of a slice of at most 16 blocks.
-fn check_index(heap: Global, base: &[u64], sizes: [Size; 4]) -> Result<(), Fail> {
+fn check_index(
+    heap: Global,
+    base: &[u64],
+    blocks: [usize; 4],
+    columns: [usize; 4],
+) -> Result<(), Fail> {
     let directory = survey(base)?;
     check(directory.blocks <= 16)?;
     let mut slots = [Slot::FREE; 40];
     let mut places = [0; 16];
     fill(base, &directory, &mut slots, &mut places)?;
-    check_filled(heap, base, &directory, &slots, &places, sizes)
+    check_filled(heap, base, &directory, &slots, &places, blocks, columns)
 }
 
 #[test]
-fn sluices(rt: LibcRuntime) -> Result<(), Fail> {
-    check_index(
-        rt.alloc(),
-        &SLUICES,
-        [
-            Size::new(4, 2),
-            Size::new(3, 2),
-            Size::new(2, 1),
-            Size::NONE,
-        ],
-    )
+fn example(rt: LibcRuntime) -> Result<(), Fail> {
+    let base = sluices(rt.alloc())?;
+    check_index(rt.alloc(), base.as_slice(), [4, 3, 2, 0], [2, 2, 1, 0])
 }
 
 #[test]
 fn colliding(rt: LibcRuntime) -> Result<(), Fail> {
     let base = under_keys(rt.alloc(), &COLLIDING)?;
-    check_index(
-        rt.alloc(),
-        base.as_slice(),
-        [Size::new(0, 1), Size::new(12, 1), Size::NONE, Size::NONE],
-    )
+    check_index(rt.alloc(), base.as_slice(), [0, 12, 0, 0], [1, 1, 0, 0])
 }

@@ -1,8 +1,8 @@
 // Which slices are refused, and at which register.
 use crate::bases::COLLIDING;
-use crate::bases::SLUICES;
 use crate::bases::add_plain;
 use crate::bases::high_keys;
+use crate::bases::sluices;
 use crate::bases::under_keys;
 use registers::check as checked;
 use registers::layout::NUMBER_LIMIT;
@@ -43,18 +43,12 @@ fn keyed(heap: Global, keys: &[u64]) -> Result<Result<(), Refusal>, AllocError> 
     Ok(checked(base.as_slice()))
 }
 
-// The number and the place by which each refusal is told.
-#[test]
-fn numbers_and_places() -> Result<(), Fail> {
-    let layout = Refusal::Layout { register: 8 };
-    check_eq((layout.number(), layout.place()), (1, 8))?;
-    let blocks = Refusal::Blocks { register: 3 };
-    check_eq((blocks.number(), blocks.place()), (2, 3))
-}
-
 // The example and every beginning of it.
 #[test]
-fn cut_short() -> Result<(), Fail> {
+fn cut_short(rt: LibcRuntime) -> Result<(), Fail> {
+    let base = sluices(rt.alloc())?;
+    let base = base.as_slice();
+    check(base.len() == 48)?;
     for len in 0..48 {
         let register = match len {
             0 => 8,
@@ -62,9 +56,9 @@ fn cut_short() -> Result<(), Fail> {
             23..39 => 1,
             _ => 2,
         };
-        check_eq(checked(&SLUICES[0..len]), layout(register)).note(len)?;
+        check_eq(checked(&base[0..len]), layout(register)).note(len)?;
     }
-    check_eq(checked(&SLUICES), Ok(()))
+    check_eq(checked(base), Ok(()))
 }
 
 // No to ten registers.

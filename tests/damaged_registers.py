@@ -10,7 +10,7 @@ from random_registers import answer, drawn_row
 from reading import Refused, read, unpacked
 
 SEED = 1
-CASES = 500
+CASES = 350
 
 
 def drawn(source):

@@ -136,4 +136,9 @@ for seed in 1 2 3 4 5 6 7 8; do
     run "$work/random" </dev/null
     expect_answer "random registers of seed $seed" "$(cat "$work/answer")"
 done
+python3 "$here/tests/damaged_registers.py" "$ask" >"$work/out" 2>"$work/err"
+status=$?
+difference=
+[ "$status" -eq 0 ] || difference="the plain reading says otherwise"
+verdict "damaged registers as a plain reading tells them" "$difference"
 exit "$failed"

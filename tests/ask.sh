@@ -51,7 +51,7 @@ expect_failure() {
 
 # The run told a refusal in one line, or a line for each register, and nothing else, and ended with status 0.
 expect_lines() {
-    local name=$1 line='register [0-7]: [0-9]+ blocks?, [1-8] columns?' difference=
+    local name=$1 line='register [0-7]: [0-9]+ keys?, [1-8] columns?, [0-9]+ rows?; [0-9]+ keys? ha(s|ve) more than one row' difference=
     [ "$status" -eq 0 ] || difference="status 0 was expected"
     [ ! -s "$work/err" ] || difference="nothing on standard error was expected"
     [ -s "$work/out" ] || difference="some line was expected"

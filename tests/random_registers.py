@@ -33,7 +33,11 @@ def count(number, word):
 def answer(registers):
     """The lines that are printed of the registers."""
     for place, (columns, blocks) in enumerate(registers):
-        yield f"register {place}: {count(len(blocks), 'block')}, {count(columns, 'column')}\n"
+        rows = [len(under) for under in blocks.values()]
+        contested = sum(1 for under in rows if under > 1)
+        size = f"{count(len(blocks), 'key')}, {count(columns, 'column')}, {count(sum(rows), 'row')}"
+        have = "has" if contested == 1 else "have"
+        yield f"register {place}: {size}; {count(contested, 'key')} {have} more than one row\n"
 
 
 if __name__ == "__main__":

@@ -76,7 +76,7 @@ impl fmt::Display for RegisterLine as RegisterLineDisplay {
 }
 
 // Writes a line for each register, or the one line of their refusal.
-pub fn tell<W: Write + Drop>(out: W, base: &[u64]) -> io::Result<()> {
+pub(crate) fn tell<W: Write + Drop>(out: W, base: &[u64]) -> io::Result<()> {
     let mut out = BufWriter::new(out);
     match summarize(base) {
         Ok(report) => {

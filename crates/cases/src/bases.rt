@@ -6,7 +6,7 @@ use std::alloc::Global;
 pub const COLLIDING: [u64; 12] = [21, 55, 76, 110, 131, 144, 165, 199, 220, 254, 288, 309];
 
 // Sluices (polder, width), polders (level, board) and boards: 48 numbers; the registers begin at 1, 23 and 39.
-pub fn sluices(heap: Global) -> Result<Vec<u64>, AllocError> {
+pub(crate) fn sluices(heap: Global) -> Result<Vec<u64>, AllocError> {
     let mut base = Vec::from_slice(heap, &[3])?;
     base.extend_from_slice(&[4, 2, 1, 1, 10, 4, 2, 2, 10, 6, 11, 6])?;
     base.extend_from_slice(&[3, 1, 12, 5, 4, 2, 11, 9, 11, 8])?;
@@ -16,7 +16,7 @@ pub fn sluices(heap: Global) -> Result<Vec<u64>, AllocError> {
 }
 
 // Adds a register whose blocks have the keys 0, 1, 2 and so on, so many rows each, and their key in every cell.
-pub fn add_plain(
+pub(crate) fn add_plain(
     base: &mut Vec<u64>,
     blocks: u64,
     columns: u64,
@@ -35,7 +35,7 @@ pub fn add_plain(
 }
 
 // Register 0 is empty, and register 1 is of one column and has one row under each of these keys: the key's number.
-pub fn under_keys(heap: Global, keys: &[u64]) -> Result<Vec<u64>, AllocError> {
+pub(crate) fn under_keys(heap: Global, keys: &[u64]) -> Result<Vec<u64>, AllocError> {
     let mut base = Vec::from_slice(heap, &[2, 0, 1, keys.len() as u64, 1])?;
     for (i, key) in keys.iter().enumerate() {
         base.extend_from_slice(&[*key, 1, i as u64])?;
@@ -44,7 +44,7 @@ pub fn under_keys(heap: Global, keys: &[u64]) -> Result<Vec<u64>, AllocError> {
 }
 
 // So many keys that differ in their upper bits only.
-pub fn high_keys(heap: Global, count: u32) -> Result<Vec<u64>, AllocError> {
+pub(crate) fn high_keys(heap: Global, count: u32) -> Result<Vec<u64>, AllocError> {
     let mut keys = Vec::new(heap);
     for i in 0..count {
         keys.push(i as u64 * 1048576)?;

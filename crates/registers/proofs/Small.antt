@@ -5,11 +5,14 @@ use mathlib.Core.List.{List, [], _∷_}
 use Prim.Native.Nat.{ℕ, zero, suc, min, _+_, _-_, _≤_, _<_}
 use native.Mathlib.Omega.{arith}
 use lib.Dec.{leb, ltb}
-use lib.ListN.{length, take, drop}
+use lib.Bits.{bitOr, or-add-and}
+use lib.ListN.{getD, length, take, drop}
 use Rattle.std.specs.Holes.{between}
 use Rattle.std.specs.shelf.Lists.{leading}
 use Rattle.std.proofs.shelf.Lists.{length-take, length-drop}
 use Rattle.std.proofs.shelf.Sums.{leading-le-length}
+use Rattle.std.proofs.shelf.Bits.{and-le-l, and-le-r}
+use Rattle.std.proofs.shelf.Tests.{cond-true, lt-ltb}
 use Rattle.std.proofs.shelf.Ways.{tells}
 use Rattle.registers.specs.Refusals.{small}
 
@@ -64,3 +67,16 @@ small-drop xs p h l =
     let n : length (drop p xs) ≡ length xs - p = length-drop p xs in
     let s : small (drop p xs) ≡ leb (length (drop p xs)) (run (drop p xs)) = small-run (drop p xs) in
     grind (arith, tells)
+
+-- where every number is small, none is met that is large
+pub run-all : (xs : List ℕ) → ((k : ℕ) → k < length xs → getD xs k 0 < 4294967296) → run xs ≡ length xs
+run-all [] h = refl
+run-all (x ∷ xs) h =
+    cond-true _ _ _ (lt-ltb x 4294967296 (h 0 (omega arith))) ∙ omega (arith, run-all xs (λ k l. h (suc k) (omega arith)))
+
+-- a number is at most what it becomes by more bits
+pub or-above-left : (a b : ℕ) → a ≤ bitOr a b
+or-above-left a b = omega (arith, or-add-and a b, and-le-r a b)
+
+pub or-above-right : (a b : ℕ) → b ≤ bitOr a b
+or-above-right a b = omega (arith, or-add-and a b, and-le-l a b)

@@ -1,9 +1,9 @@
 // Where the registers of a slice stand, and whether they are all there.
 ghost use mathlib.Core.Bool.{cond};
 ghost use mathlib.Core.Path.{_≡_};
-ghost use Prim.Native.Nat.{_≤_};
+ghost use Prim.Native.Nat.{ℕ, _≤_, _<_};
 ghost use lib.Dec.{ltb};
-ghost use lib.ListN.{length};
+ghost use lib.ListN.{getD, length};
 ghost use Rattle.std.specs.shelf.Lists.{leading};
 ghost use Rattle.std.specs.declared.option.Option.the-variants.{Some, None};
 ghost use Rattle.registers.specs.declared.refusals.Refusal.the-variants.{Layout};
@@ -44,10 +44,25 @@ pub struct Directory {
     pub sections: [Section; MAX_REGISTERS],
 }
 
-// How many numbers stand before the first one that is too large.
+// The bits that any of the numbers has: no number is larger.
+fn all_bits(numbers: &[u64]) -> u64
+    ensures { λ r. ⌜ ((k : ℕ) → k < length (now (numbers .entry)) → getD (now (numbers .entry)) k 0 ≤ r) ⌝ }
+{
+    let mut bits = 0;
+    for x in numbers {
+        bits |= *x;
+    }
+    bits
+}
+
+// How many numbers stand before the first one that is too large. Mostly none is, which is seen without a branch for
+// each.
 fn before_large(numbers: &[u64]) -> usize
     ensures { λ r. ⌜ r ≡ leading (λ x. ltb x 4294967296) (now (numbers .entry)) ⌝ }
 {
+    if all_bits(numbers) < NUMBER_LIMIT {
+        return numbers.len();
+    }
     for (i, x) in numbers.iter().enumerate() {
         if *x >= NUMBER_LIMIT {
             return i;

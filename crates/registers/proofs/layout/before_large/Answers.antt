@@ -1,8 +1,14 @@
+use mathlib.Core.Path.{sym}
 use native.Mathlib.Omega.{arith}
 use lib.Dec.{ltb}
 use Rattle.std.proofs.shelf.Tests.{lt-ltb, le-ltb}
 use Rattle.std.proofs.shelf.Sums.{leading-drop-yes, leading-drop-no, leading-drop-all}
+use Rattle.registers.proofs.Small.{run-all}
 use Rattle.registers.proofs.layout.before_large.Needs as need
+
+pub returns-then-all-bits-lt-NUMBER-LIMIT : need.returns-then-all-bits-lt-NUMBER-LIMIT
+returns-then-all-bits-lt-NUMBER-LIMIT c =
+    sym (run-all (c .args .numbers .now) (λ k h. omega (arith, c .all-bits .ensures k h, c .if-all-bits-lt-NUMBER-LIMIT .taken)))
 
 pub returns-then-x-ge-NUMBER-LIMIT : need.returns-then-x-ge-NUMBER-LIMIT
 returns-then-x-ge-NUMBER-LIMIT c =

@@ -1,30 +1,31 @@
 // Checking and surveying registers.
+use crate::timing::Found;
 use crate::timing::Timed;
 use registers::check;
 use registers::layout::survey;
 use std::error::AnyError;
 use std::time::Instant;
 
-// How many of the copies, each of so many numbers, are not refused.
-fn count_sound(copies: &[u64], len: usize) -> u64 {
-    let mut sound = 0u64;
+// Checks all copies, each of so many numbers.
+fn check_all(copies: &[u64], len: usize) -> Found {
+    let mut found = Found::NONE;
     for copy in copies.chunks(len.max(1)) {
         if check(copy).is_ok() {
-            sound = sound.wrapping_add(1);
+            found.add(1);
         }
     }
-    sound
+    found
 }
 
-// How many blocks the copies have that are surveyed.
-fn count_blocks(copies: &[u64], len: usize) -> u64 {
-    let mut blocks = 0u64;
+// Surveys all copies, and adds their blocks up.
+fn survey_all(copies: &[u64], len: usize) -> Found {
+    let mut found = Found::NONE;
     for copy in copies.chunks(len.max(1)) {
         if let Ok(directory) = survey(copy) {
-            blocks = blocks.wrapping_add(directory.blocks as u64);
+            found.add(directory.blocks as u64);
         }
     }
-    blocks
+    found
 }
 
 // The time to check all copies.
@@ -37,7 +38,7 @@ pub fn time_check(
     let mut timed = Timed::NONE;
     for _run in 0..runs {
         let start = Instant::now(rt)?;
-        let found = count_sound(copies, len);
+        let found = check_all(copies, len);
         timed.add(start.elapsed(rt)?, found);
     }
     Ok(timed)
@@ -53,7 +54,7 @@ pub fn time_survey(
     let mut timed = Timed::NONE;
     for _run in 0..runs {
         let start = Instant::now(rt)?;
-        let found = count_blocks(copies, len);
+        let found = survey_all(copies, len);
         timed.add(start.elapsed(rt)?, found);
     }
     Ok(timed)

@@ -84,28 +84,36 @@ pub struct Question {
     pub key: u64,
 }
 
-// Keys from numbers in no order, each with the register of the first copy that the number belongs to. None is there
-// where `from` is not 0.
-fn questions(heap: Global, shape: Shape, from: u32) -> Result<Vec<Question>, AllocError> {
+// The look-up of the key that comes from a number, in the register of the first copy that the number belongs to. The key
+// is there if it is one of the registers' own.
+fn question_of(shape: Shape, number: u32, own: bool) -> Question {
+    let from = if own { 0 } else { OTHERS };
+    Question {
+        register: (number / shape.blocks.max(1)) as usize,
+        key: u64::from(scattered(number.wrapping_add(from))),
+    }
+}
+
+// How many keys the registers of a copy have.
+fn keys(shape: Shape) -> u32 {
+    shape.blocks.saturating_mul(REGISTERS)
+}
+
+// A look-up for each key of the registers, or for as many others.
+pub fn each(heap: Global, shape: Shape, own: bool) -> Result<Vec<Question>, AllocError> {
     let mut questions = Vec::new(heap);
-    let blocks = shape.blocks.max(1);
-    let all = REGISTERS.saturating_mul(blocks).max(1);
-    for i in 0..QUESTIONS {
-        let n = scattered(i) % all;
-        questions.push(Question {
-            register: (n / blocks) as usize,
-            key: u64::from(scattered(from.wrapping_add(n))),
-        })?;
+    for number in 0..keys(shape) {
+        questions.push(question_of(shape, number, own))?;
     }
     Ok(questions)
 }
 
-// Look-ups of keys that are there.
-pub fn present(heap: Global, shape: Shape) -> Result<Vec<Question>, AllocError> {
-    questions(heap, shape, 0)
-}
-
-// Look-ups of keys that are not there.
-pub fn absent(heap: Global, shape: Shape) -> Result<Vec<Question>, AllocError> {
-    questions(heap, shape, OTHERS)
+// Look-ups of keys of the registers in no order, or of others.
+pub fn mixed(heap: Global, shape: Shape, own: bool) -> Result<Vec<Question>, AllocError> {
+    let mut questions = Vec::new(heap);
+    let all = keys(shape).max(1);
+    for i in 0..QUESTIONS {
+        questions.push(question_of(shape, scattered(i) % all, own))?;
+    }
+    Ok(questions)
 }

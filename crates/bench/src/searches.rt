@@ -2,6 +2,7 @@
 ghost use Prim.Native.Nat.{_≤_};
 ghost use Rattle.registers.specs.Indexing.{Enough, Indexed, Room};
 use crate::samples::Question;
+use crate::timing::Found;
 use crate::timing::Timed;
 use registers::filling::fill;
 use registers::index::Index;
@@ -11,27 +12,20 @@ use registers::table::Slot;
 use std::error::AnyError;
 use std::time::Instant;
 
-// What a list of look-ups gives: how many keys are there, and the sum of the first row of each.
-#[derive(Clone, Copy)]
-pub struct Found {
-    pub keys: u64,
-    pub sum: u64,
-}
-
-// Looks all keys up.
-fn find_all(index: &Index, questions: &[Question]) -> u64 {
-    let mut found = 0u64;
+// Looks all keys up, and adds up the numbers of their blocks.
+fn find_all(index: &Index, questions: &[Question]) -> Found {
+    let mut found = Found::NONE;
     for question in questions {
         if let Some(number) = index.find(question.register, question.key) {
-            found = found.wrapping_add(number as u64).wrapping_add(1);
+            found.add(number as u64);
         }
     }
     found
 }
 
-// Looks all keys up, and counts those that are there with a row.
+// Looks all keys up, and adds up their first rows.
 fn read_all(index: &Index, questions: &[Question]) -> Found {
-    let mut found = Found { keys: 0, sum: 0 };
+    let mut found = Found::NONE;
     for question in questions {
         let register = question.register;
         let Some(number) = index.find(register, question.key) else {
@@ -41,11 +35,12 @@ fn read_all(index: &Index, questions: &[Question]) -> Found {
             continue;
         }
         let block = index.block(register, number);
-        if block.key == question.key && block.rows > 0 {
-            found.keys = found.keys.wrapping_add(1);
+        if block.rows > 0 {
+            let mut sum = 0u64;
             for x in block.row(0) {
-                found.sum = found.sum.wrapping_add(*x);
+                sum = sum.wrapping_add(*x);
             }
+            found.add(sum);
         }
     }
     found
@@ -59,7 +54,6 @@ pub struct Times {
     pub present: Timed,
     pub read: Timed,
     pub absent: Timed,
-    pub found: Found,
 }
 
 impl Times {
@@ -68,7 +62,6 @@ impl Times {
         present: Timed::NONE,
         read: Timed::NONE,
         absent: Timed::NONE,
-        found: Found { keys: 0, sum: 0 },
     };
 
     // The sum of what all runs found.
@@ -108,8 +101,7 @@ fn time_finds<'a>(
     times.absent.add(start.elapsed(rt)?, found);
     let start = Instant::now(rt)?;
     let found = read_all(&index, questions.present);
-    times.read.add(start.elapsed(rt)?, found.sum);
-    times.found = found;
+    times.read.add(start.elapsed(rt)?, found);
     Ok(())
 }
 
@@ -129,7 +121,7 @@ fn time_fill(
     let Ok(()) = fill(base, directory, slots, places) else {
         return Err("the registers are refused".into());
     };
-    times.fill.add(start.elapsed(rt)?, 0);
+    times.fill.add(start.elapsed(rt)?, Found::NONE);
     time_finds(rt, base, directory, slots, places, questions, times)
 }
 

@@ -1,5 +1,6 @@
 // Whether the answers are right that are timed.
 use crate::samples;
+use crate::samples::Keys;
 use crate::samples::Question;
 use crate::samples::Rows;
 use crate::samples::Shape;
@@ -35,8 +36,8 @@ fn count_found(base: &[u64], questions: &[Question]) -> usize {
 pub fn tell(rt: &LibcRuntime) -> Result<(), AnyError> {
     let base = samples::make(rt.alloc(), SMALL)?;
     let base = base.as_slice();
-    let present = samples::each(rt.alloc(), SMALL, true)?;
-    let absent = samples::each(rt.alloc(), SMALL, false)?;
+    let present = samples::each(rt.alloc(), SMALL, Keys::Present)?;
+    let absent = samples::each(rt.alloc(), SMALL, Keys::Absent)?;
     let questions = Questions {
         present: present.as_slice(),
         absent: absent.as_slice(),

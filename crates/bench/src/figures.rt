@@ -1,6 +1,7 @@
 // The times of registers of several sizes.
 use crate::checks;
 use crate::samples;
+use crate::samples::Keys;
 use crate::samples::QUESTIONS;
 use crate::samples::Rows;
 use crate::samples::Shape;
@@ -54,8 +55,8 @@ fn line(rt: &LibcRuntime, time: Tenths, what: &str) -> Result<(), AnyError> {
 
 // The times of an index over the first copy of registers.
 fn time_searches(rt: &LibcRuntime, base: &[u64], shape: Shape) -> Result<Times, AnyError> {
-    let present = samples::mixed(rt.alloc(), shape, true)?;
-    let absent = samples::mixed(rt.alloc(), shape, false)?;
+    let present = samples::mixed(rt.alloc(), shape, Keys::Present)?;
+    let absent = samples::mixed(rt.alloc(), shape, Keys::Absent)?;
     let mut times = Times::NONE;
     for _run in 0..RUNS {
         let questions = Questions {

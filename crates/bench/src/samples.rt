@@ -84,10 +84,21 @@ pub struct Question {
     pub key: u64,
 }
 
-// The look-up of the key that comes from a number, in the register of the first copy that the number belongs to. The key
-// is there if it is one of the registers' own.
-fn question_of(shape: Shape, number: u32, own: bool) -> Question {
-    let from = if own { 0 } else { OTHERS };
+// Which keys are looked up.
+#[derive(Clone, Copy)]
+pub enum Keys {
+    // Those that the registers have.
+    Present,
+    // Others.
+    Absent,
+}
+
+// The look-up of the key that comes from a number, in the register of the first copy that the number belongs to.
+fn question_of(shape: Shape, number: u32, keys: Keys) -> Question {
+    let from = match keys {
+        Keys::Present => 0,
+        Keys::Absent => OTHERS,
+    };
     Question {
         register: (number / shape.blocks.max(1)) as usize,
         key: u64::from(scattered(number.wrapping_add(from))),
@@ -95,25 +106,25 @@ fn question_of(shape: Shape, number: u32, own: bool) -> Question {
 }
 
 // How many keys the registers of a copy have.
-fn keys(shape: Shape) -> u32 {
+fn key_count(shape: Shape) -> u32 {
     shape.blocks.saturating_mul(REGISTERS)
 }
 
-// A look-up for each key of the registers, or for as many others.
-pub fn each(heap: Global, shape: Shape, own: bool) -> Result<Vec<Question>, AllocError> {
+// A look-up for each key of the registers, or for as many others, in the order of the numbers they come from.
+pub fn each(heap: Global, shape: Shape, keys: Keys) -> Result<Vec<Question>, AllocError> {
     let mut questions = Vec::new(heap);
-    for number in 0..keys(shape) {
-        questions.push(question_of(shape, number, own))?;
+    for number in 0..key_count(shape) {
+        questions.push(question_of(shape, number, keys))?;
     }
     Ok(questions)
 }
 
 // Look-ups of keys of the registers in no order, or of others.
-pub fn mixed(heap: Global, shape: Shape, own: bool) -> Result<Vec<Question>, AllocError> {
+pub fn mixed(heap: Global, shape: Shape, keys: Keys) -> Result<Vec<Question>, AllocError> {
     let mut questions = Vec::new(heap);
-    let all = keys(shape).max(1);
+    let all = key_count(shape).max(1);
     for i in 0..QUESTIONS {
-        questions.push(question_of(shape, scattered(i) % all, own))?;
+        questions.push(question_of(shape, scattered(i) % all, keys))?;
     }
     Ok(questions)
 }

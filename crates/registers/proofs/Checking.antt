@@ -143,9 +143,10 @@ answered-err None e y h = let z : _≡_ {A = ℕ} 0 1 = cc in absurd (omega arit
 answered-err (Some f) e y h = cc
 
 -- and of the registers that are surveyed then
-pub surveyed-turn : (xs : List ℕ) (directory : Directory) (t : ℕ) → refusal xs ≡ None → directory ≡ directory-of xs → t < directory .count → Turn xs t (getD (directory .sections) t no-section) 65544 32768 × Stands xs (getD (directory .sections) t no-section)
-surveyed-turn xs directory t e h l =
-    let none = sound-parts xs e in
-    let enough = enough-all xs directory (none .0) h in
-    let u = turn-at xs directory 65544 32768 t (none .0) h (enough .slots-enough) (enough .places-enough) l in
+pub enough-turn : (xs : List ℕ) (directory : Directory) (t : ℕ) → Enough xs directory 65544 32768 → t < directory .count → Turn xs t (getD (directory .sections) t no-section) 65544 32768 × Stands xs (getD (directory .sections) t no-section)
+enough-turn xs directory t k l =
+    let u = turn-at xs directory 65544 32768 t (k .fits) (k .surveyed) (k .slots-enough) (k .places-enough) l in
     (u .0, turn-stands xs t (getD (directory .sections) t no-section) 65544 32768 (u .0) (u .1))
+
+pub surveyed-turn : (xs : List ℕ) (directory : Directory) (t : ℕ) → refusal xs ≡ None → directory ≡ directory-of xs → t < directory .count → Turn xs t (getD (directory .sections) t no-section) 65544 32768 × Stands xs (getD (directory .sections) t no-section)
+surveyed-turn xs directory t e h l = enough-turn xs directory t (enough-all xs directory (sound-parts xs e .0) h) l

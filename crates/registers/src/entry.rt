@@ -1,12 +1,14 @@
 // Checking a slice of registers, and looking one key up in it.
 ghost use mathlib.Core.Path.{_≡_};
-ghost use Prim.Native.Nat.{_≤_};
+ghost use Prim.Native.Nat.{_+_, _*_, _≤_};
 ghost use Rattle.registers.specs.declared.refusals.Refusal.the-variants.{Blocks};
 ghost use Rattle.registers.specs.Answers.{Looked-up, Shows};
+ghost use Rattle.registers.specs.Base.{proper-register};
 ghost use Rattle.registers.specs.Indexing.{Enough, Stands};
 ghost use Rattle.registers.specs.Layout.{register-at};
 ghost use Rattle.registers.specs.Refusals.{answered, misstated, refusal, refused-at};
 ghost use Rattle.registers.specs.Survey.{directory-of};
+use crate::filling::enter_blocks;
 use crate::filling::fill;
 use crate::layout::Directory;
 use crate::layout::Section;
@@ -28,6 +30,49 @@ fn try_fill<const SLOTS: usize, const PLACES: usize>(
     fill(base, directory, &mut slots, &mut places)
 }
 
+// Enters one register into room of a given size, only to see whether it is proper.
+fn try_enter<const SLOTS: usize, const PLACES: usize>(base: &[u64], section: Section) -> bool
+    requires stands { ⌜ Stands (now base) section ⌝ }
+    requires enough { ⌜ 2 * section .blocks + 1 ≤ SLOTS ⌝ ∗ ⌜ section .blocks ≤ PLACES ⌝ }
+    requires sizes { ⌜ SLOTS ≤ 65544 ⌝ ∗ ⌜ PLACES ≤ 32768 ⌝ }
+    ensures { λ r. ⌜ r ≡ proper-register (register-at (now (base .entry)) (section .place)) ⌝ }
+{
+    let blocks = section.blocks;
+    let size = 2 * blocks + 1;
+    let mut slots = [Slot::FREE; SLOTS];
+    let mut places = [0; PLACES];
+    let slots = &mut slots[..];
+    let places = &mut places[..];
+    enter_blocks(base, section, &mut slots[0..size], &mut places[0..blocks])
+}
+
+// Whether a register is proper, found in room of one of two sizes.
+fn try_register(base: &[u64], section: Section) -> bool
+    requires stands { ⌜ Stands (now base) section ⌝ }
+    requires few { ⌜ section .blocks ≤ 4096 ⌝ }
+    ensures { λ r. ⌜ r ≡ proper-register (register-at (now (base .entry)) (section .place)) ⌝ }
+{
+    if section.blocks <= 256 {
+        try_enter::<513, 256>(base, section)
+    } else {
+        try_enter::<8193, 4096>(base, section)
+    }
+}
+
+// The refusal of many registers, tried one after the other: their tables are not needed at once.
+fn try_registers(base: &[u64], directory: &Directory) -> Result<(), Refusal>
+    requires { ⌜ Enough (now base) (now directory) 65544 32768 ⌝ }
+    ensures { λ r. ⌜ r ≡ answered (refused-at Blocks (misstated (now (base .entry)))) tt ⌝ }
+{
+    let count = directory.count;
+    for t in 0..count {
+        if !try_register(base, directory.sections[t]) {
+            return Err(Refusal::Blocks { register: t });
+        }
+    }
+    Ok(())
+}
+
 // The same in room that is no larger than the registers ask for.
 fn try_room(base: &[u64], directory: &Directory) -> Result<(), Refusal>
     requires { ⌜ Enough (now base) (now directory) 65544 32768 ⌝ }
@@ -38,10 +83,8 @@ fn try_room(base: &[u64], directory: &Directory) -> Result<(), Refusal>
         try_fill::<40, 16>(base, directory)
     } else if blocks <= 512 {
         try_fill::<1032, 512>(base, directory)
-    } else if blocks <= 4096 {
-        try_fill::<8200, 4096>(base, directory)
     } else {
-        try_fill::<65544, 32768>(base, directory)
+        try_registers(base, directory)
     }
 }
 

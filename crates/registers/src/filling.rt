@@ -25,7 +25,12 @@ fn clear(slots: &mut [Slot], places: &mut [usize])
 }
 
 // Enters the blocks of one register; false where a key has two blocks or a block has no row.
-fn enter_blocks(base: &[u64], section: Section, table: &mut [Slot], places: &mut [usize]) -> bool
+pub(crate) fn enter_blocks(
+    base: &[u64],
+    section: Section,
+    table: &mut [Slot],
+    places: &mut [usize],
+) -> bool
     requires { ⌜ Awaits (now base) section (now table) (now places) ⌝ }
     ensures proper { λ r. ⌜ r ≡ proper-register (register-at (now (base .entry)) (section .place)) ⌝ }
     ensures entered { λ r. ⌜ (r ≡ true → Entered (now (base .entry)) (section .place) (now (table .exit)) (now (places .exit))) ⌝ }

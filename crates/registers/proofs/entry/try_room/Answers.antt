@@ -10,7 +10,3 @@ try-fill-requires c κs =
 pub try-fill-requires-then-blocks-le512 : need.try-fill-requires-then-blocks-le512
 try-fill-requires-then-blocks-le512 c κs =
     record { enough = enough-for _ _ 512 _ _ (c .pre) (c .if-blocks-le512 .taken) (lit≤ tt) (lit≤ tt); sizes = (lit≤ tt, lit≤ tt) }
-
-pub try-fill-requires-then-blocks-le4096 : need.try-fill-requires-then-blocks-le4096
-try-fill-requires-then-blocks-le4096 c κs =
-    record { enough = enough-for _ _ 4096 _ _ (c .pre) (c .if-blocks-le4096 .taken) (lit≤ tt) (lit≤ tt); sizes = (lit≤ tt, lit≤ tt) }

@@ -1,6 +1,5 @@
 -- Adding up the blocks of a register, and the registers of a report.
-use mathlib.Core.Path.{_≡_, refl, sym, ap, ap₂, _∙_}
-use mathlib.Core.Bool.{Bool, true, false}
+use mathlib.Core.Path.{_≡_, sym, ap, ap₂, _∙_}
 use mathlib.Core.List.{List, []}
 use mathlib.Core.Logic.{_⊎_, ⊎-elim}
 use Prim.Native.Nat.{ℕ, _+_, _*_, _≤_, _<_}
@@ -8,13 +7,12 @@ use native.Mathlib.Omega.{arith}
 use borrow.Author.Count.{below-more}
 use denote.Ref.{now}
 use lib.Dec.{ltb}
-use lib.ListN.{getD, length, replicate, set, take}
+use lib.ListN.{getD, length, set, take}
 use Rattle.std.specs.shelf.Lists.{countBy, sumBy}
 use Rattle.std.proofs.shelf.Lists.{getD-set-other, getD-set-same, length-set, take-all}
 use Rattle.std.proofs.shelf.Sums.{countBy-more-no, countBy-more-yes, sumBy-more}
-use Rattle.std.proofs.shelf.Tests.{cases-eq, le-ltb, lt-ltb}
-use Rattle.registers.specs.Base.{Block, Register, register}
-use Rattle.registers.specs.Layout.{base-of}
+use Rattle.std.proofs.shelf.Tests.{le-ltb, lt-ltb}
+use Rattle.registers.specs.Base.{Register}
 use Rattle.registers.specs.Views.{block, held}
 use Rattle.registers.specs.declared.blocks.Block.{Block as Part}
 use Rattle.registers.proofs.Noting.{length-rows-from}
@@ -27,9 +25,6 @@ pub record Summed (r : Register) (i rows contested : ℕ) : Type 0 where
   pub contested-are : contested ≡ countBy (λ b. ltb 1 (rows-of b)) (take i r)
   pub few-rows : rows ≤ 64 * i
   pub few-contested : contested ≤ i
-
-pub summed-none : (r : Register) → Summed r 0 0 0
-summed-none r = record { rows-are = refl; contested-are = refl; few-rows = omega arith; few-contested = omega arith }
 
 -- a block in memory has as many rows as the block that it holds
 pub held-rows : (r : Register) (i : ℕ) (p : Part) → held p ≡ block r i → p .rows ≡ rows-of (block r i)
@@ -62,9 +57,6 @@ same-summary p q r s = λ i. record { blocks = p i; columns = q i; rows = r i; c
 pub record Reporting (xs : List ℕ) (t : ℕ) (registers : List Summary) : Type 0 where
   pub wide : length registers ≡ 8
   pub each : (i : ℕ) → i < t → getD registers i no-summary ≡ summary-of xs i
-
-pub reporting-none : (xs : List ℕ) → Reporting xs 0 (replicate 8 no-summary)
-reporting-none xs = record { wide = refl; each = λ i l. absurd (omega arith) }
 
 pub reporting-more : (xs : List ℕ) (t : ℕ) (registers : List Summary) (s : Summary) → Reporting xs t registers → t < 8 → s ≡ summary-of xs t → Reporting xs (t + 1) (set registers t s)
 reporting-more xs t registers s k l e =

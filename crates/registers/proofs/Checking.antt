@@ -145,7 +145,7 @@ answered-err (Some f) e y h = cc
 -- and of the registers that are surveyed then
 pub enough-turn : (xs : List ℕ) (directory : Directory) (t : ℕ) → Enough xs directory 65544 32768 → t < directory .count → Turn xs t (getD (directory .sections) t no-section) 65544 32768 × Stands xs (getD (directory .sections) t no-section)
 enough-turn xs directory t k l =
-    let u = turn-at xs directory 65544 32768 t (k .fits) (k .surveyed) (k .slots-enough) (k .places-enough) l in
+    let u = turn-at xs directory 65544 32768 t k l in
     (u .0, turn-stands xs t (getD (directory .sections) t no-section) 65544 32768 (u .0) (u .1))
 
 pub surveyed-turn : (xs : List ℕ) (directory : Directory) (t : ℕ) → refusal xs ≡ None → directory ≡ directory-of xs → t < directory .count → Turn xs t (getD (directory .sections) t no-section) 65544 32768 × Stands xs (getD (directory .sections) t no-section)

@@ -1,9 +1,9 @@
 -- What an index tells: the number of a key's block, and the place of each block.
 use mathlib.Core.Path.{_≡_, refl, sym, ap, ap₂, subst, _∙_}
-use mathlib.Core.Bool.{Bool, true, false, cond, not, _&&_}
+use mathlib.Core.Bool.{true, not}
 use mathlib.Core.List.{List, [], _∷_}
 use mathlib.Core.Logic.{∥∥₁-elim, ⊎-elim}
-use Prim.Native.Nat.{ℕ, zero, suc, _+_, _-_, _*_, _^_, _≤_, _<_}
+use Prim.Native.Nat.{ℕ, zero, suc, _+_, _-_, _*_, _≤_, _<_}
 use native.Mathlib.Numerals.{add-one}
 use native.Mathlib.Omega.{arith}
 use native.Mathlib.Bridge.{le-prop}
@@ -20,20 +20,19 @@ use Rattle.std.proofs.shelf.Lists.{length-map}
 use Rattle.std.proofs.shelf.Tests.{and-parts, cases-lt, cond-false, cond-true, eq-eqb, ne-eqb, true≢false}
 use Rattle.registers.specs.declared.layout.Directory.{Directory}
 use Rattle.registers.specs.declared.layout.Section.{Section}
-use Rattle.registers.specs.declared.refusals.Refusal.{Refusal}
 use Rattle.registers.specs.declared.refusals.Refusal.the-variants.{Layout, Blocks}
 use Rattle.registers.specs.declared.table.Slot.{Slot}
 use Rattle.registers.specs.Base.{Block, Register, Row, has-key, proper-register, register}
-use Rattle.registers.specs.Indexing.{Entered, Indexed, keys-of, number-under, one-more, table-place}
+use Rattle.registers.specs.Indexing.{Indexed, keys-of, number-under, one-more, table-place}
 use Rattle.registers.specs.Layout.{base-of, block-at, block-place, blocks-at, blocks-before, columns-at, count-of, register-at, register-place, rows-from}
-use Rattle.registers.specs.Refusals.{block-fits, misfit, misstated, or-else, refusal, refused-at, register-fits}
+use Rattle.registers.specs.Refusals.{block-fits, misfit, misstated, or-else, refusal, refused-at}
 use Rattle.registers.specs.Survey.{no-section}
 use Rattle.registers.specs.Table.{Holds, Open, Probed, free}
 use Rattle.registers.proofs.Entering.{holds-known, holds-open, holds-unknown}
 use Rattle.registers.specs.Views.{block}
 use Rattle.registers.proofs.Fitting.{Inside, fit-from, inside-from}
 use Rattle.registers.proofs.Noting.{block-fits-at}
-use Rattle.registers.proofs.Placing.{Turn, count-directory, first-failing-none, turn-at}
+use Rattle.registers.proofs.Placing.{Turn, enough-count, first-failing-none, turn-at}
 use Rattle.registers.proofs.Proper.{has-key-at}
 use Rattle.registers.proofs.Views.{block-there, length-register, register-beyond, register-there, rows-of-part}
 
@@ -93,7 +92,7 @@ module _ (xs : List ℕ) (directory : Directory) (slots : List Slot) (places : L
   pub index-turn : Turn xs t (getD (directory .sections) t no-section) (length slots) (length places)
   index-turn =
       ∥∥₁-elim ix (Turn-prop xs t _ _ _)
-      (λ k. turn-at xs directory (length slots) (length places) t (sound-parts xs (k .sound) .0) (k .surveyed) (k .slots-enough) (k .places-enough) l .0)
+      (λ k. turn-at xs directory (length slots) (length places) t (k .enough) l .0)
 
   -- it is proper
   pub index-proper : proper-register (register-at xs (register-place xs t)) ≡ true
@@ -167,7 +166,7 @@ pub record Located (xs : List ℕ) (directory : Directory) (places : List ℕ) (
 -- how many registers there are
 pub index-count : (xs : List ℕ) (directory : Directory) (slots : List Slot) (places : List ℕ) → ∥ Indexed xs directory slots places ∥₁ → directory .count ≡ count-of xs
 index-count xs directory slots places ix =
-    ∥∥₁-elim ix (≡-prop codedℕ _ _) (λ k. ap (λ (d : Directory). d .count) (k .surveyed) ∙ count-directory xs)
+    ∥∥₁-elim ix (≡-prop codedℕ _ _) (λ k. enough-count xs directory (length slots) (length places) (k .enough))
 
 pub located : (xs : List ℕ) (directory : Directory) (slots : List Slot) (places : List ℕ) (t i : ℕ) → ∥ Indexed xs directory slots places ∥₁ → i < length (register (base-of xs) t) → Located xs directory places (length slots) t i (getD places (getD (directory .sections) t no-section .first + i) 0)
 located xs directory slots places t i ix h =

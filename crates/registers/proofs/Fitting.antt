@@ -1,17 +1,16 @@
 -- Laws of what fits: one block or register more, and that what fails early fails in the whole.
 use mathlib.Core.Path.{_≡_, refl, sym, ap, _∙_}
 use mathlib.Core.Bool.{Bool, true, false, cond, _&&_}
-use mathlib.Core.List.{List, [], _∷_}
-use Prim.Native.Nat.{ℕ, zero, suc, _+_, _-_, _*_, _≤_, _<_}
+use mathlib.Core.List.{List}
+use Prim.Native.Nat.{ℕ, zero, suc, _+_, _*_, _≤_, _<_}
 use native.Mathlib.Omega.{arith}
 use native.Mathlib.Numerals.{add-one}
-use lib.Dec.{leb, ltb}
+use lib.Dec.{leb}
 use lib.ListN.{length, getD}
 use mathlib.Core.Logic.{⊎-elim}
-use Rattle.std.proofs.shelf.Tests.{and-left, and-right, and-from, and-parts, cases-eq, leb-true, cond-true, cond-false}
+use Rattle.std.proofs.shelf.Tests.{and-left, and-right, and-from, and-parts, cases-eq, leb-true, cond-false}
 use Rattle.std.proofs.shelf.Ways.{tells}
 use Rattle.std.specs.Holes.{between}
-use Rattle.std.specs.declared.option.Option.{Option}
 use Rattle.std.specs.declared.option.Option.the-variants.{Some, None}
 use Rattle.registers.specs.Layout.{block-place, block-end, blocks-at, columns-at, register-end}
 use Rattle.registers.specs.Refusals.{blocks-fit, block-fits, register-fits, small}

@@ -1,7 +1,7 @@
 -- A slice that is not refused stands for registers within all limits.
 use mathlib.Core.Path.{_≡_, refl, sym, ap, subst, _∙_}
-use mathlib.Core.Bool.{Bool, true, false, _&&_, not}
-use mathlib.Core.List.{List, [], _∷_, map}
+use mathlib.Core.Bool.{true, not}
+use mathlib.Core.List.{List, [], _∷_}
 use mathlib.Core.Logic.{∥∥₁-elim, ⊎-elim}
 use Prim.Native.Nat.{ℕ, zero, suc, _+_, _-_, _*_, _^_, _≤_, _<_}
 use base.Stored.{codedBool, codedℕ}
@@ -9,12 +9,10 @@ use denote.Ref.{now}
 use denote.Struct.Props.{≡-prop}
 use native.Mathlib.Bridge.{le-prop}
 use native.Mathlib.Nat.{mul-le-mul-right}
-use native.Mathlib.Numerals.{add-one}
 use native.Mathlib.Omega.{arith}
 use lib.Dec.{ltb}
-use lib.ListN.{drop, getD, length, take}
+use lib.ListN.{getD, length}
 use Rattle.std.specs.Holes.{between}
-use Rattle.std.specs.Iters.{counting}
 use Rattle.std.specs.declared.option.Option.the-variants.{None}
 use Rattle.std.proofs.shelf.Counted.{length-map-counting}
 use Rattle.std.proofs.shelf.Edits.{getD-between, length-between}
@@ -22,9 +20,9 @@ use Rattle.std.proofs.shelf.Lists.{getD-drop, getD-take, length-drop, length-ta
 use Rattle.std.proofs.shelf.Tests.{and-from, and-parts, cases-eq, ltb-true}
 use Rattle.registers.specs.declared.index.Index.{Index}
 use Rattle.registers.specs.Base.{Base, Block, Register, has-key, proper, proper-register, register}
-use Rattle.registers.specs.Layout.{base-of, block-at, block-end, block-place, blocks-at, columns-at, columns-of, count-of, register-at, register-end, register-place, row-at, rows-from}
+use Rattle.registers.specs.Layout.{base-of, block-at, block-end, block-place, blocks-at, columns-at, columns-of, count-of, register-at, register-end, register-place, row-at}
 use Rattle.registers.specs.Limits.{Limits-hold, Within, block-in}
-use Rattle.registers.specs.Refusals.{block-fits, blocks-fit, misstated, refusal, register-fits, small}
+use Rattle.registers.specs.Refusals.{misstated, refusal, register-fits, small}
 use Rattle.registers.specs.Views.{block}
 use Rattle.registers.proofs.Finding.{sound-parts}
 use Rattle.registers.proofs.Fitting.{Fit, Inside, block-place-more, block-place-none, fit-from, inside-from}

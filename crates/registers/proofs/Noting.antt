@@ -1,24 +1,22 @@
 -- Entering the blocks of one register, block by block.
 use mathlib.Core.Path.{_≡_, refl, sym, ap, ap₂, subst, _∙_}
-use mathlib.Core.Bool.{Bool, true, false, cond, not, _&&_}
+use mathlib.Core.Bool.{Bool, true, false, not, _&&_}
 use mathlib.Core.List.{List, [], _∷_, _++_, map}
 use mathlib.Core.Logic.{_⊎_, ⊎-elim}
-use Prim.Native.Nat.{ℕ, zero, suc, _+_, _-_, _*_, _^_, _≤_, _<_}
+use Prim.Native.Nat.{ℕ, zero, suc, _+_, _*_, _≤_, _<_}
 use native.Mathlib.Omega.{arith}
 use borrow.Author.Count.{below-more}
-use native.Mathlib.Numerals.{add-one}
 use lib.Dec.{ltb}
-use lib.ListN.{length, getD, set, replicate, take, drop}
+use lib.ListN.{length, getD, set, replicate, drop}
 use Rattle.std.specs.Iters.{counting}
 use Rattle.std.proofs.shelf.Counted.{length-map-counting, map-counting-more, take-map-counting}
 use Rattle.std.proofs.shelf.Lists.{getD-set-same, getD-set-other, length-map, length-replicate, length-set, map-push, take-append-drop}
 use Rattle.std.proofs.shelf.Tests.{and-from, and-right, and-left, and-parts, cases-eq, le-ltb, lt-ltb}
-use Rattle.std.proofs.shelf.Ways.{tells}
 use Rattle.registers.specs.declared.layout.Section.{Section}
 use Rattle.registers.specs.declared.table.Slot.{Slot}
 use Rattle.registers.specs.Base.{Block, Register, has-key, proper-register}
 use Rattle.registers.specs.Indexing.{Awaits, Entered, Stands, keys-of}
-use Rattle.registers.specs.Layout.{block-at, block-end, block-place, blocks-at, blocks-from, columns-at, register-at, register-end, rows-from}
+use Rattle.registers.specs.Layout.{block-at, block-end, block-place, blocks-at, blocks-from, columns-at, register-at, rows-from}
 use Rattle.registers.specs.Refusals.{block-fits, blocks-fit}
 use Rattle.registers.specs.Table.{Holds, Open, Probed, free}
 use Rattle.registers.proofs.Fitting.{Inside, block-place-more, block-place-none, fit-from, inside-from}

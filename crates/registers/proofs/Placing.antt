@@ -1,7 +1,7 @@
 -- Entering register after register: the tables that stand are kept, and the slots behind them are free.
 use mathlib.Core.Path.{_≡_, refl, sym, ap, ap₂, subst, _∙_}
 use mathlib.Core.Bool.{Bool, true, false, cond}
-use mathlib.Core.List.{List, [], _∷_, _++_}
+use mathlib.Core.List.{List}
 use mathlib.Core.Logic.{⊎-elim}
 use Prim.Native.Nat.{ℕ, zero, suc, _+_, _-_, _*_, _≤_, _<_}
 use native.Mathlib.Omega.{arith}
@@ -13,21 +13,21 @@ use Rattle.std.specs.Holes.{between}
 use Rattle.std.specs.declared.option.Option.{Option}
 use Rattle.std.specs.declared.option.Option.the-variants.{Some, None}
 use Rattle.std.proofs.shelf.Counted.{getD-map-counting}
-use Rattle.std.proofs.shelf.Lists.{drop-drop, drop-replicate, length-append, length-drop, length-take, length-replicate, take-replicate}
+use Rattle.std.proofs.shelf.Lists.{drop-drop, drop-replicate, length-append, length-drop, length-take, take-replicate}
 use Rattle.std.proofs.shelf.Parts.{between-is, between-putMid, drop-putMid, take-putMid-below}
-use Rattle.std.proofs.shelf.Tests.{cases-eq, cond-true, cond-false, lt-ltb, not-true, true≢false}
+use Rattle.std.proofs.shelf.Tests.{cases-eq, cond-true, lt-ltb}
 use Rattle.std.proofs.shelf.Ways.{tells}
 use Rattle.registers.specs.declared.layout.Section.{Section}
 use Rattle.registers.specs.declared.layout.Directory.{Directory}
 use Rattle.registers.specs.declared.table.Slot.{Slot}
 use Rattle.registers.specs.declared.refusals.Refusal.the-variants.{Layout, Blocks}
 use Rattle.registers.specs.Base.{proper-register}
-use Rattle.registers.specs.Indexing.{Awaits, Entered, Indexed, Room, Stands, table-place}
+use Rattle.registers.specs.Indexing.{Awaits, Enough, Entered, Indexed, Room, Stands, table-place}
 use Rattle.registers.specs.Layout.{blocks-at, blocks-before, columns-at, count-of, register-at, register-place}
-use Rattle.registers.specs.Refusals.{answered, count-fits, first-failing, misfit, misstated, or-else, refusal, refused-at, register-fits}
+use Rattle.registers.specs.Refusals.{count-fits, first-failing, misfit, misstated, or-else, refusal, refused-at, register-fits}
 use Rattle.registers.specs.Survey.{directory-of, no-section, section-at, section-of}
 use Rattle.registers.specs.Table.{free}
-use Rattle.registers.proofs.Fitting.{Fit, fit-from}
+use Rattle.registers.proofs.Fitting.{fit-from}
 use Rattle.registers.proofs.Surveying.{blocks-before-more, first-failing-is, first-failing-more}
 
 -- where nothing fails, each test passes
@@ -84,10 +84,6 @@ blocks-before-up xs i (suc t) h =
 pub table-place-more : (xs : List ℕ) (t : ℕ) → table-place xs (t + 1) ≡ table-place xs t + 2 * blocks-at xs (register-place xs t) + 1
 table-place-more xs t = omega (arith, blocks-before-more xs t)
 
-pub count-directory : (xs : List ℕ) → directory-of xs .count ≡ count-of xs
-unfolding directory-of
-count-directory xs = refl
-
 pub section-there : (xs : List ℕ) (t : ℕ) → t < count-of xs → count-of xs ≤ 8 → getD (directory-of xs .sections) t no-section ≡ section-of xs t
 unfolding directory-of
 section-there xs t h l =
@@ -129,14 +125,19 @@ pub record Turn (xs : List ℕ) (t : ℕ) (section : Section) (slots places : �
   pub table : 2 * section .first + t + 2 * section .blocks + 1 ≤ slots
   pub noted : section .first + section .blocks ≤ places
 
-pub turn-at : (xs : List ℕ) (directory : Directory) (slots places t : ℕ) → misfit xs ≡ None → directory ≡ directory-of xs → 2 * blocks-before xs (count-of xs) + count-of xs ≤ slots → blocks-before xs (count-of xs) ≤ places → t < directory .count → Turn xs t (getD (directory .sections) t no-section) slots places × (getD (directory .sections) t no-section ≡ section-of xs t)
-turn-at xs directory slots places t none surveyed a b l =
-    let fit = misfit-none xs none in
-    let count : directory .count ≡ count-of xs = ap (λ (d : Directory). d .count) surveyed ∙ count-directory xs in
+-- how many registers there are
+pub enough-count : (xs : List ℕ) (directory : Directory) (slots places : ℕ) → Enough xs directory slots places → directory .count ≡ count-of xs
+unfolding directory-of
+enough-count xs directory slots places k = ap (λ (d : Directory). d .count) (k .surveyed)
+
+pub turn-at : (xs : List ℕ) (directory : Directory) (slots places t : ℕ) → Enough xs directory slots places → t < directory .count → Turn xs t (getD (directory .sections) t no-section) slots places × (getD (directory .sections) t no-section ≡ section-of xs t)
+turn-at xs directory slots places t k l =
+    let fit = misfit-none xs (k .fits) in
+    let count = enough-count xs directory slots places k in
     let less : t < count-of xs = omega arith in
     let few : count-of xs ≤ 8 = count-few xs (fit .0) in
     let there : getD (directory .sections) t no-section ≡ section-of xs t =
-    ap (λ (d : Directory). getD (d .sections) t no-section) surveyed ∙ section-there xs t less few in
+    ap (λ (d : Directory). getD (d .sections) t no-section) (k .surveyed) ∙ section-there xs t less few in
     let fits = first-failing-none (λ i. register-fits xs (register-place xs i)) (count-of xs) t (fit .1) less in
     let more = blocks-before-more xs t in
     let up = blocks-before-up xs (t + 1) (count-of xs) (omega arith) in
@@ -151,8 +152,8 @@ turn-at xs directory slots places t none surveyed a b l =
         blocks = blocks;
         columns = ap (λ (s : Section). s .columns) there;
         few-blocks = omega (arith, fit-from xs (register-place xs t) fits .few-blocks);
-        table = omega arith;
-        noted = omega arith;
+        table = omega (arith, k .slots-enough);
+        noted = omega (arith, k .places-enough);
       },
       there,
     )
@@ -164,7 +165,13 @@ turn-stands xs t section m n u is =
 -- in a turn of the loop that fills the room
 pub turn : (xs : List ℕ) (directory : Directory) (slots : List Slot) (places : List ℕ) (m n t : ℕ) → Room xs directory slots places → t < directory .count → m ≡ length slots → n ≡ length places → Turn xs t (getD (directory .sections) t no-section) m n × (getD (directory .sections) t no-section ≡ section-of xs t)
 turn xs directory slots places m n t r l e f =
-    turn-at xs directory m n t (r .enough .fits) (r .enough .surveyed) (omega (arith, r .enough .slots-enough)) (omega (arith, r .enough .places-enough)) l
+    turn-at xs directory m n t
+    (record {
+      fits = r .enough .fits;
+      surveyed = r .enough .surveyed;
+      slots-enough = omega (arith, r .enough .slots-enough);
+      places-enough = omega (arith, r .enough .places-enough);
+    }) l
 
 pub placed-none : (xs : List ℕ) (directory : Directory) (slots : List Slot) (places : List ℕ) → Room xs directory slots places → Placed xs 0 slots places
 unfolding first-failing blocks-before
@@ -230,9 +237,12 @@ placed-ends xs directory old slots was places t r k e l m =
       none,
       record {
         sound = ap₂ (λ (a b : Option ℕ). or-else (refused-at Layout a) (refused-at Blocks b)) (r .enough .fits) none;
-        surveyed = r .enough .surveyed;
-        slots-enough = omega (arith, r .enough .slots-enough);
-        places-enough = omega (arith, r .enough .places-enough);
+        enough = record {
+          fits = r .enough .fits;
+          surveyed = r .enough .surveyed;
+          slots-enough = omega (arith, r .enough .slots-enough);
+          places-enough = omega (arith, r .enough .places-enough);
+        };
         entered = λ i h. k .entered i (omega arith);
       },
     )

@@ -1,14 +1,13 @@
 -- Going over the registers of a slice: the first that fails a test, and where those stand that were passed.
 use mathlib.Core.Path.{_≡_, refl, sym, ap, ap₂, _∙_}
 use mathlib.Core.Bool.{Bool, true, false, cond}
-use mathlib.Core.List.{List, [], _∷_, map}
+use mathlib.Core.List.{List, [], _∷_}
 use mathlib.Core.Logic.{⊎-elim}
 use Prim.Native.Nat.{ℕ, zero, suc, _+_, _*_, _≤_, _<_}
 use native.Mathlib.Omega.{arith}
 use native.Mathlib.Numerals.{add-one}
 use lib.Dec.{leb, ltb}
 use lib.ListN.{length, getD, set, replicate, drop}
-use Rattle.std.specs.Iters.{counting}
 use Rattle.std.specs.declared.option.Option.{Option}
 use Rattle.std.specs.declared.option.Option.the-variants.{Some, None}
 use Rattle.std.specs.declared.result.Result.the-variants.{Ok, Err}
@@ -17,13 +16,12 @@ use Rattle.std.proofs.shelf.Counted.{fill-by-all}
 use Rattle.std.proofs.shelf.Tests.{cases-eq, cond-true, cond-false}
 use Rattle.std.proofs.shelf.Ways.{tells}
 use Rattle.registers.specs.declared.layout.Section.{Section}
-use Rattle.registers.specs.declared.layout.Directory.{Directory}
 use Rattle.registers.specs.declared.refusals.Refusal.{Refusal}
 use Rattle.registers.specs.Layout.{blocks-at, blocks-before, count-of, register-end, register-place}
-use Rattle.registers.specs.Refusals.{answered, count-fits, first-failing, misfit, or-else, refused-at, register-fits, small}
+use Rattle.registers.specs.Refusals.{answered, count-fits, first-failing, misfit, refused-at, register-fits, small}
 use Rattle.registers.specs.Survey.{directory-of, no-section, section-at, section-of}
 use Rattle.registers.proofs.Small.{run, run-le-length, small-drop}
-use Rattle.registers.proofs.Fitting.{Fit, fit-from, fit-before-large}
+use Rattle.registers.proofs.Fitting.{fit-from, fit-before-large}
 
 -- no test failed so far
 pub first-failing-more : (f : ℕ → Bool) (n : ℕ) → first-failing f n ≡ None → f n ≡ true → first-failing f (n + 1) ≡ None

@@ -1,18 +1,15 @@
 -- What the definitions of the layout give at each register, block and row: the laws that the crates above cite.
-use mathlib.Core.Path.{_≡_, refl, sym, ap, ap₂, _∙_}
-use mathlib.Core.Bool.{true}
-use mathlib.Core.List.{List, [], _∷_, map}
+use mathlib.Core.Path.{_≡_, ap, ap₂, _∙_}
+use mathlib.Core.List.{List, []}
 use mathlib.Core.Logic.{⊎-elim}
 use Prim.Native.Nat.{ℕ, _+_, _-_, _*_, _≤_, _<_}
 use native.Mathlib.Nat.{mul-le-mul-right}
 use native.Mathlib.Omega.{arith}
 use lib.ListN.{drop, getD, length, take}
-use Rattle.std.specs.Holes.{between}
-use Rattle.std.specs.Iters.{counting}
 use Rattle.std.proofs.shelf.Counted.{fill-by-all, getD-map-counting, length-map-counting}
 use Rattle.std.proofs.shelf.Lists.{drop-drop, drop-take, getD-past, take-take}
 use Rattle.std.proofs.shelf.Tests.{cases-lt}
-use Rattle.registers.specs.Base.{Base, Block, Register, Row, register}
+use Rattle.registers.specs.Base.{Base, register}
 use Rattle.registers.specs.Layout.{base-of, block-at, block-place, blocks-at, blocks-from, columns-at, columns-of, count-of, register-at, register-place, row-at, rows-from}
 use Rattle.registers.specs.Views.{block}
 use Rattle.registers.proofs.Noting.{length-blocks-from, length-rows-from}

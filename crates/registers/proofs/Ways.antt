@@ -1,20 +1,20 @@
 -- The way of a key through a hash table: where it begins, that it comes to every slot, and where it ends.
 use mathlib.Core.Path.{_≡_, refl, sym, ap, subst, _∙_}
-use mathlib.Core.Bool.{Bool, true, false, cond}
+use mathlib.Core.Bool.{Bool, true, cond}
 use mathlib.Core.List.{List, [], _∷_}
-use mathlib.Core.Logic.{_⊎_, inl, inr, ⊎-elim}
+use mathlib.Core.Logic.{⊎-elim}
 use Prim.Native.Nat.{ℕ, zero, suc, _+_, _-_, _*_, _/_, _%_, _^_, _≤_, _<_}
 use native.Mathlib.Nat.{div-lt-iff-lt-mul, mod-lt, mul-lt-mul-of-pos-right}
 use native.Mathlib.Omega.{arith}
 use borrow.Author.Count.{below-more}
-use lib.Dec.{ltb, eqb, lit<}
+use lib.Dec.{eqb, lit<}
 use lib.ListN.{length, getD}
 use Rattle.std.specs.shelf.Lists.{countBy}
 use Rattle.std.proofs.shelf.Sums.{sumBy-cons}
-use Rattle.std.proofs.shelf.Tests.{cases-lt, cases-eq}
+use Rattle.std.proofs.shelf.Tests.{cases-lt}
 use Rattle.std.proofs.shelf.Ways.{tells}
 use Rattle.registers.specs.declared.table.Slot.{Slot}
-use Rattle.registers.specs.Table.{Open, Probed, free, home-of, on-way, spot, taken}
+use Rattle.registers.specs.Table.{Open, free, home-of, on-way, spot, taken}
 
 -- a way begins in the table
 pub home-below : (k m : ℕ) → 0 < m → home-of k m < m
@@ -72,10 +72,6 @@ probing-more table k i at next p l used other e =
           (let here : on-way table k i .entry ≡ 0 → ⊥ = λ z. used (ap (λ (s : Slot). s .entry) same ∙ z) in
           (omega arith, λ z. other (ap (λ (s : Slot). s .key) same ∙ z)));
     }
-
-pub probing-found : (table : List Slot) (k i at : ℕ) → Probing table k i at → i < length table → (getD table at free .entry ≡ 0) ⊎ (getD table at free .key ≡ k) → Probed table k at
-probing-found table k i at p l h =
-    record { steps = i; few = l; place = p .place; inside = p .inside; before = p .before; here = h }
 
 -- a way does not go round without coming to a free slot
 pub probing-ends : (table : List Slot) (k i at : ℕ) → Probing table k i at → length table ≤ i → Open table → ⊥

@@ -5,7 +5,7 @@ use Prim.Native.Nat.{ℕ}
 use lib.ListN.{set, take}
 use Rattle.std.specs.declared.option.Option.the-variants.{Some, None}
 use Rattle.registers.specs.declared.refusals.Refusal.the-variants.{Blocks, Layout}
-use Rattle.registers.specs.Base.{Base, Register, Row, rows-under, register}
+use Rattle.registers.specs.Base.{Register, rows-under, register}
 use Rattle.registers.specs.Layout.{base-of, columns-of}
 use Rattle.registers.specs.Refusals.{refusal}
 

@@ -1,7 +1,7 @@
 -- An index over the registers of a slice: which block stands under a key, and the room in which this is noted.
 -- Assumes nothing: these are definitions.
 use mathlib.Core.Path.{_≡_}
-use mathlib.Core.Bool.{Bool, true, cond}
+use mathlib.Core.Bool.{true, cond}
 use mathlib.Core.List.{List, [], _∷_, map}
 use Prim.Native.Nat.{ℕ, _+_, _*_, _≤_, _<_}
 use lib.Dec.{eqb}
@@ -12,7 +12,7 @@ use Rattle.std.specs.declared.option.Option.the-variants.{Some, None}
 use Rattle.registers.specs.declared.layout.Directory.{Directory}
 use Rattle.registers.specs.declared.layout.Section.{Section}
 use Rattle.registers.specs.declared.table.Slot.{Slot}
-use Rattle.registers.specs.Base.{Block, Register}
+use Rattle.registers.specs.Base.{Register}
 use Rattle.registers.specs.Layout.{block-place, blocks-at, blocks-before, columns-at, count-of, register-at, register-place}
 use Rattle.registers.specs.Refusals.{misfit, refusal, register-fits}
 use Rattle.registers.specs.Survey.{directory-of, section-at}
@@ -69,9 +69,7 @@ pub record Room (xs : List ℕ) (directory : Directory) (slots : List Slot) (pla
 -- registers of which none is refused, all entered
 pub record Indexed (xs : List ℕ) (directory : Directory) (slots : List Slot) (places : List ℕ) : Type 0 where
   pub sound : refusal xs ≡ None
-  pub surveyed : directory ≡ directory-of xs
-  pub slots-enough : 2 * blocks-before xs (count-of xs) + count-of xs ≤ length slots
-  pub places-enough : blocks-before xs (count-of xs) ≤ length places
+  pub enough : Enough xs directory (length slots) (length places)
   pub entered : (t : ℕ) → t < count-of xs →
       Entered xs (register-place xs t)
       (between (table-place xs t) (table-place xs t + 2 * blocks-at xs (register-place xs t) + 1) slots)

@@ -1,4 +1,4 @@
--- What stands in lent memory. Read in this order; what follows Refusals is for the crates above.
+-- What stands in lent memory. Read in this order; what follows Answers is for the crates above.
 pub mod Base
 pub mod Layout
 pub mod Refusals

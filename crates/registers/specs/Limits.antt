@@ -5,7 +5,7 @@ use mathlib.Core.List.{List, []}
 use Prim.Native.Nat.{ℕ, _^_, _≤_, _<_}
 use lib.ListN.{getD, length}
 use Rattle.std.specs.declared.option.Option.the-variants.{None}
-use Rattle.registers.specs.Base.{Base, Block, proper, register}
+use Rattle.registers.specs.Base.{Block, proper, register}
 use Rattle.registers.specs.Layout.{base-of, columns-of}
 use Rattle.registers.specs.Refusals.{refusal}
 use Rattle.registers.specs.Views.{block}

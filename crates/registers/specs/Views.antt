@@ -1,5 +1,5 @@
 -- What an index and a block in memory stand for. Assumes nothing: these are definitions.
-use mathlib.Core.List.{List, []}
+use mathlib.Core.List.{[]}
 use Prim.Native.Nat.{ℕ}
 use denote.Ref.{now}
 use lib.ListN.{getD}

@@ -1,11 +1,11 @@
-use mathlib.Core.Path.{_≡_, ap, sym, subst, _∙_}
+use mathlib.Core.Path.{ap, sym, subst, _∙_}
 use native.Mathlib.Omega.{arith}
-use Rattle.registers.specs.declared.layout.Directory.{Directory}
 use Rattle.registers.specs.Answers.{Shows}
 use Rattle.registers.specs.Base.{Register, has-key}
-use Rattle.registers.specs.Layout.{count-of, register-at}
-use Rattle.registers.proofs.Checking.{answered-ok, surveyed-turn}
-use Rattle.registers.proofs.Placing.{count-directory}
+use Rattle.registers.specs.Layout.{register-at}
+use Rattle.registers.proofs.Checking.{answered-ok, enough-all, surveyed-turn}
+use Rattle.registers.proofs.Finding.{sound-parts}
+use Rattle.registers.proofs.Placing.{enough-count}
 use Rattle.registers.proofs.Views.{register-beyond, register-there}
 use Rattle.registers.proofs.entry.look_up.Needs as need
 
@@ -13,7 +13,7 @@ pub returns-then-register-directory : need.returns-then-register-directory
 unfolding has-key
 returns-then-register-directory c =
     let sound = answered-ok _ _ _ (c .in-Ok .ensures tt) in
-    let count : c .in-Ok .directory .count ≡ count-of (c .args .base .now) = ap (λ (d : Directory). d .count) (sound .1) ∙ count-directory (c .args .base .now) in
+    let count = enough-count _ _ _ _ (enough-all _ _ (sound-parts (c .args .base .now) (sound .0) .0) (sound .1)) in
     (sound .0, ap (has-key (c .args .key)) (register-beyond (c .args .base .now) (c .args .register) (omega arith)))
 
 pub offset-directory-register : need.offset-directory-register

@@ -1,13 +1,12 @@
 use mathlib.Core.Path.{_≡_, ap, refl, sym, _∙_}
 use Prim.Native.Nat.{ℕ}
 use native.Mathlib.Omega.{arith}
-use Rattle.registers.specs.declared.layout.Directory.{Directory}
 use Rattle.registers.specs.declared.refusals.Refusal.the-variants.{Blocks}
 use Rattle.registers.specs.Base.{proper-register}
 use Rattle.registers.specs.Layout.{count-of, register-at}
 use Rattle.registers.specs.Refusals.{first-failing, misstated}
 use Rattle.registers.proofs.Checking.{enough-turn}
-use Rattle.registers.proofs.Placing.{count-directory}
+use Rattle.registers.proofs.Placing.{enough-count}
 use Rattle.registers.proofs.Surveying.{first-failing-is, first-failing-more, told-at, told-ok}
 use Rattle.registers.proofs.entry.try_registers.Needs as need
 
@@ -47,6 +46,6 @@ loop-t-again c =
 pub returns : need.returns
 unfolding misstated
 returns c =
-    let count : c .args .directory .now .count ≡ count-of (c .args .base .now) = ap (λ (d : Directory). d .count) (c .pre .surveyed) ∙ count-directory (c .args .base .now) in
+    let count = enough-count _ _ _ _ (c .pre) in
     let all : count-of (c .args .base .now) ≡ c .loop-t .t = omega arith in
     told-ok Blocks _ _ _ (ap (first-failing _) all ∙ c .loop-t .inv) refl

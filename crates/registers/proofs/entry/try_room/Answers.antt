@@ -1,4 +1,3 @@
-use native.Mathlib.Omega.{arith}
 use lib.Dec.{lit≤}
 use Rattle.registers.proofs.Checking.{enough-for}
 use Rattle.registers.proofs.entry.try_room.Needs as need

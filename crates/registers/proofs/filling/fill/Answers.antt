@@ -1,15 +1,14 @@
-use mathlib.Core.Path.{_≡_, refl, sym, ap, _∙_}
+use mathlib.Core.Path.{refl, sym, ap, _∙_}
 use native.Mathlib.Omega.{arith}
 use Prim.Native.Nat.{ℕ}
 use lib.ListN.{replicate}
 use Rattle.std.proofs.shelf.Edits.{length-between}
-use Rattle.registers.specs.declared.layout.Directory.{Directory}
 use Rattle.registers.specs.declared.refusals.Refusal.the-variants.{Blocks}
 use Rattle.registers.specs.Base.{proper-register}
-use Rattle.registers.specs.Layout.{count-of, register-at}
+use Rattle.registers.specs.Layout.{register-at}
 use Rattle.registers.specs.Table.{free}
 use Rattle.registers.proofs.Surveying.{told-at, told-ok}
-use Rattle.registers.proofs.Placing.{count-directory, placed-awaits, placed-ends, placed-more, placed-none, placed-stops, length-putMid, turn}
+use Rattle.registers.proofs.Placing.{enough-count, placed-awaits, placed-ends, placed-more, placed-none, placed-stops, length-putMid, turn}
 use Rattle.registers.proofs.filling.fill.Needs as need
 
 pub loop-t-holds : need.loop-t-holds
@@ -106,6 +105,6 @@ loop-t-again c =
 
 pub returns : need.returns
 returns c =
-    let count : c .args .directory .now .count ≡ count-of (c .args .base .now) = ap (λ (d : Directory). d .count) (c .pre .enough .surveyed) ∙ count-directory (c .args .base .now) in
+    let count = enough-count _ _ _ _ (c .pre .enough) in
     let ends = placed-ends _ _ _ _ _ _ (c .loop-t .t) (c .pre) (c .loop-t .inv) (omega arith) (c .loop-t .kept .slots) (c .loop-t .kept .places) in
     record { answer = told-ok Blocks _ _ _ (ends .0) refl; room = ends .1 }

@@ -12,8 +12,8 @@ use Rattle.std.specs.shelf.Lists.{countBy, sumBy}
 use Rattle.std.proofs.shelf.Lists.{getD-set-other, getD-set-same, length-set, take-all}
 use Rattle.std.proofs.shelf.Sums.{countBy-more-no, countBy-more-yes, sumBy-more}
 use Rattle.std.proofs.shelf.Tests.{le-ltb, lt-ltb}
-use Rattle.registers.specs.Base.{Register}
-use Rattle.registers.specs.Views.{block, held}
+use Rattle.registers.specs.Base.{Register, block}
+use Rattle.registers.specs.Views.{held}
 use Rattle.registers.specs.declared.blocks.Block.{Block as Part}
 use Rattle.registers.proofs.Noting.{length-rows-from}
 use Rattle.ask.specs.declared.summary.Summary.{Summary}

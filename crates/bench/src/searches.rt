@@ -31,9 +31,6 @@ fn read_all(index: &Index, questions: &[Question]) -> Found {
         let Some(number) = index.find(register, question.key) else {
             continue;
         };
-        if number >= index.blocks(register) {
-            continue;
-        }
         let block = index.block(register, number);
         if block.rows > 0 {
             let mut sum = 0u64;

@@ -17,19 +17,18 @@ use Rattle.std.specs.declared.option.Option.{Option}
 use Rattle.std.specs.declared.option.Option.the-variants.{Some, None}
 use Rattle.std.proofs.shelf.Edits.{getD-between, length-between}
 use Rattle.std.proofs.shelf.Lists.{length-map}
-use Rattle.std.proofs.shelf.Tests.{and-parts, cases-lt, cond-false, cond-true, eq-eqb, ne-eqb, true≢false}
+use Rattle.std.proofs.shelf.Tests.{and-parts, cases-eq, cases-lt, cond-false, cond-true, eq-eqb, ne-eqb, or-from, or-left, or-right, true≢false}
 use Rattle.registers.specs.declared.layout.Directory.{Directory}
 use Rattle.registers.specs.declared.layout.Section.{Section}
 use Rattle.registers.specs.declared.refusals.Refusal.the-variants.{Layout, Blocks}
 use Rattle.registers.specs.declared.table.Slot.{Slot}
-use Rattle.registers.specs.Base.{Block, Register, Row, has-key, proper-register, register}
-use Rattle.registers.specs.Indexing.{Indexed, keys-of, number-under, one-more, table-place}
+use Rattle.registers.specs.Base.{Block, Register, Row, block, has-key, proper-register, register, rows-under}
+use Rattle.registers.specs.Indexing.{Indexed, Told, keys-of, number-under, one-more, table-place}
 use Rattle.registers.specs.Layout.{base-of, block-at, block-place, blocks-at, blocks-before, columns-at, count-of, register-at, register-place, rows-from}
 use Rattle.registers.specs.Refusals.{block-fits, misfit, misstated, or-else, refusal, refused-at}
 use Rattle.registers.specs.Survey.{no-section}
 use Rattle.registers.specs.Table.{Holds, Open, Probed, free}
 use Rattle.registers.proofs.Entering.{holds-known, holds-open, holds-unknown}
-use Rattle.registers.specs.Views.{block}
 use Rattle.registers.proofs.Fitting.{Inside, fit-from, inside-from}
 use Rattle.registers.proofs.Noting.{block-fits-at}
 use Rattle.registers.proofs.Placing.{Turn, enough-count, first-failing-none, turn-at}
@@ -57,6 +56,31 @@ number-at k (suc i) (b ∷ bs) p h e =
     cond-false (eqb (b .key) k) (Some 0) _ (ne-eqb (b .key) k other)
     ∙ ap one-more (number-at k i bs (rest .1) (omega arith) e)
     ∙ ap Some (add-one i)
+
+-- what a number means
+told-first : (k : ℕ) (b : Block) (bs : Register) → b .key ≡ k → Told k (b ∷ bs) (Some 0)
+unfolding has-key rows-under
+told-first k b bs e =
+    (omega arith, or-left _ _ (eq-eqb (b .key) k e), e, cond-true _ _ _ (eq-eqb (b .key) k e))
+
+told-later : (k : ℕ) (b : Block) (bs : Register) (o : Option ℕ) → (b .key ≡ k → ⊥) → Told k bs o → Told k (b ∷ bs) (one-more o)
+unfolding has-key rows-under
+told-later k b bs None h t = or-from _ _ (ne-eqb (b .key) k h) t
+told-later k b bs (Some i) h t =
+    let at : block (b ∷ bs) (i + 1) ≡ block bs i = ap (block (b ∷ bs)) (add-one i) in
+    (omega (arith, t .0), or-right _ _ (t .1), ap (λ (c : Block). c .key) at ∙ t .2, cond-false _ _ _ (ne-eqb (b .key) k h) ∙ t .3 ∙ ap (λ (c : Block). c .rows) (sym at))
+
+told : (k : ℕ) (bs : Register) → Told k bs (number-under k bs)
+unfolding number-under has-key
+told k [] = refl
+told k (b ∷ bs) =
+    ⊎-elim
+    (λ same. subst (Told k (b ∷ bs)) (sym (cond-true _ _ _ (eq-eqb (b .key) k same))) (told-first k b bs same))
+    (λ other. subst (Told k (b ∷ bs)) (sym (cond-false _ _ _ (ne-eqb (b .key) k other))) (told-later k b bs (number-under k bs) other (told k bs)))
+    (cases-eq (b .key) k)
+
+pub meant : (k : ℕ) (bs : Register) (o : Option ℕ) → o ≡ number-under k bs → Told k bs o
+meant k bs o e = subst (Told k bs) (sym e) (told k bs)
 
 -- where no register is refused, none misfits and all are proper
 pub sound-parts : (xs : List ℕ) → refusal xs ≡ None → (misfit xs ≡ None) × (misstated xs ≡ None)

@@ -19,11 +19,10 @@ use Rattle.std.proofs.shelf.Edits.{getD-between, length-between}
 use Rattle.std.proofs.shelf.Lists.{getD-drop, getD-take, length-drop, length-take}
 use Rattle.std.proofs.shelf.Tests.{and-from, and-parts, cases-eq, ltb-true}
 use Rattle.registers.specs.declared.index.Index.{Index}
-use Rattle.registers.specs.Base.{Base, Block, Register, has-key, proper, proper-register, register}
+use Rattle.registers.specs.Base.{Base, Block, Register, block, has-key, proper, proper-register, register}
 use Rattle.registers.specs.Layout.{base-of, block-at, block-end, block-place, blocks-at, columns-at, columns-of, count-of, register-at, register-end, register-place, row-at}
 use Rattle.registers.specs.Limits.{Limits-hold, Within, block-in}
 use Rattle.registers.specs.Refusals.{misstated, refusal, register-fits, small}
-use Rattle.registers.specs.Views.{block}
 use Rattle.registers.proofs.Finding.{sound-parts}
 use Rattle.registers.proofs.Fitting.{Fit, Inside, block-place-more, block-place-none, fit-from, inside-from}
 use Rattle.registers.proofs.Noting.{block-fits-at, key-block, length-block}

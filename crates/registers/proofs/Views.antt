@@ -9,9 +9,8 @@ use lib.ListN.{drop, getD, length, take}
 use Rattle.std.proofs.shelf.Counted.{fill-by-all, getD-map-counting, length-map-counting}
 use Rattle.std.proofs.shelf.Lists.{drop-drop, drop-take, getD-past, take-take}
 use Rattle.std.proofs.shelf.Tests.{cases-lt}
-use Rattle.registers.specs.Base.{Base, register}
+use Rattle.registers.specs.Base.{Base, block, register}
 use Rattle.registers.specs.Layout.{base-of, block-at, block-place, blocks-at, blocks-from, columns-at, columns-of, count-of, register-at, register-place, row-at, rows-from}
-use Rattle.registers.specs.Views.{block}
 use Rattle.registers.proofs.Noting.{length-blocks-from, length-rows-from}
 
 -- the t-th register and its columns; there are none beyond the last

@@ -25,6 +25,10 @@ Base = List Register
 abbrev pub register : Base → ℕ → Register
 register b t = getD b t []
 
+-- the i-th block of a register
+abbrev pub block : Register → ℕ → Block
+block r i = getD r i (record { key = 0; rows = [] })
+
 -- some block stands under the key
 unfoldable pub has-key : ℕ → Register → Bool
 has-key k [] = false

@@ -1,7 +1,7 @@
 -- An index over the registers of a slice: which block stands under a key, and the room in which this is noted.
 -- Assumes nothing: these are definitions.
 use mathlib.Core.Path.{_≡_}
-use mathlib.Core.Bool.{true, cond}
+use mathlib.Core.Bool.{true, false, cond}
 use mathlib.Core.List.{List, [], _∷_, map}
 use Prim.Native.Nat.{ℕ, _+_, _*_, _≤_, _<_}
 use lib.Dec.{eqb}
@@ -12,7 +12,7 @@ use Rattle.std.specs.declared.option.Option.the-variants.{Some, None}
 use Rattle.registers.specs.declared.layout.Directory.{Directory}
 use Rattle.registers.specs.declared.layout.Section.{Section}
 use Rattle.registers.specs.declared.table.Slot.{Slot}
-use Rattle.registers.specs.Base.{Register}
+use Rattle.registers.specs.Base.{Register, block, has-key, rows-under}
 use Rattle.registers.specs.Layout.{block-place, blocks-at, blocks-before, columns-at, count-of, register-at, register-place}
 use Rattle.registers.specs.Refusals.{misfit, refusal, register-fits}
 use Rattle.registers.specs.Survey.{directory-of, section-at}
@@ -26,6 +26,11 @@ one-more (Some i) = Some (i + 1)
 unfoldable pub number-under : ℕ → Register → Option ℕ
 number-under k [] = None
 number-under k (b ∷ bs) = cond (eqb (b .key) k) (Some 0) (one-more (number-under k bs))
+
+-- what that number means: the key is there, and the rows under it are those of that block; no number, that it is not
+abbrev pub Told : ℕ → Register → Option ℕ → Type 0
+Told k r None = has-key k r ≡ false
+Told k r (Some i) = (i < length r) × (has-key k r ≡ true) × (block r i .key ≡ k) × (rows-under k r ≡ block r i .rows)
 
 abbrev pub keys-of : Register → List ℕ
 keys-of bs = map (λ b. b .key) bs

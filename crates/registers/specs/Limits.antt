@@ -5,10 +5,9 @@ use mathlib.Core.List.{List, []}
 use Prim.Native.Nat.{ℕ, _^_, _≤_, _<_}
 use lib.ListN.{getD, length}
 use Rattle.std.specs.declared.option.Option.the-variants.{None}
-use Rattle.registers.specs.Base.{Block, proper, register}
+use Rattle.registers.specs.Base.{Block, block, proper, register}
 use Rattle.registers.specs.Layout.{base-of, columns-of}
 use Rattle.registers.specs.Refusals.{refusal}
-use Rattle.registers.specs.Views.{block}
 
 -- the i-th block of the t-th register of a slice
 abbrev pub block-in : List ℕ → (t i : ℕ) → Block

@@ -3,9 +3,9 @@ ghost use mathlib.Core.Path.{_≡_};
 ghost use mathlib.Core.List.{[]};
 ghost use Prim.Native.Nat.{_<_};
 ghost use lib.ListN.{getD, length};
-ghost use Rattle.registers.specs.Base.{register};
-ghost use Rattle.registers.specs.Indexing.{Indexed, number-under};
-ghost use Rattle.registers.specs.Views.{block, columns-in, held, indexed};
+ghost use Rattle.registers.specs.Base.{block, register};
+ghost use Rattle.registers.specs.Indexing.{Indexed, Told, number-under};
+ghost use Rattle.registers.specs.Views.{columns-in, held, indexed};
 use crate::blocks::Block;
 use crate::index::Index;
 use crate::layout::Directory;
@@ -55,7 +55,8 @@ impl<'a> Index<'a> {
 
     // The number of the block under a key, counted from 0 in its register.
     pub fn find(&self, t: usize, key: u64) -> Option<usize>
-        ensures { λ r. ⌜ r ≡ number-under key (register (indexed (now (self .entry))) t) ⌝ }
+        ensures value { λ r. ⌜ r ≡ number-under key (register (indexed (now (self .entry))) t) ⌝ }
+        ensures means { λ r. ⌜ Told key (register (indexed (now (self .entry))) t) r ⌝ }
     {
         if t >= self.directory.count {
             return None;

@@ -33,7 +33,7 @@ fn count_found(base: &[u64], questions: &[Question]) -> usize {
 
 // Prints how many keys are found of those that are there, and of as many others, and whether registers are refused that
 // are cut short.
-pub fn tell(rt: &LibcRuntime) -> Result<(), AnyError> {
+pub(crate) fn tell(rt: &LibcRuntime) -> Result<(), AnyError> {
     let base = samples::make(rt.alloc(), SMALL)?;
     let base = base.as_slice();
     let present = samples::each(rt.alloc(), SMALL, Keys::Present)?;

@@ -29,7 +29,7 @@ fn survey_all(copies: &[u64], len: usize) -> Found {
 }
 
 // The time to check all copies.
-pub fn time_check(
+pub(crate) fn time_check(
     rt: &LibcRuntime,
     copies: &[u64],
     len: usize,
@@ -45,7 +45,7 @@ pub fn time_check(
 }
 
 // The time to survey all copies.
-pub fn time_survey(
+pub(crate) fn time_survey(
     rt: &LibcRuntime,
     copies: &[u64],
     len: usize,

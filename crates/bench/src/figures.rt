@@ -107,7 +107,7 @@ fn tell_shape(rt: &LibcRuntime, shape: Shape) -> Result<(), AnyError> {
 }
 
 // Prints the times of all shapes.
-pub fn tell(rt: &LibcRuntime) -> Result<(), AnyError> {
+pub(crate) fn tell(rt: &LibcRuntime) -> Result<(), AnyError> {
     println!(rt, "The least time of {RUNS} runs.")?;
     for shape in SHAPES {
         tell_shape(rt, shape)?;

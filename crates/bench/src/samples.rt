@@ -64,7 +64,7 @@ fn add_register(base: &mut Vec<u64>, shape: Shape, first: u32) -> Result<(), All
 }
 
 // All copies of the registers, one behind the other. Those of the first copy have the keys from the numbers 0, 1, ..
-pub fn make(heap: Global, shape: Shape) -> Result<Vec<u64>, AllocError> {
+pub(crate) fn make(heap: Global, shape: Shape) -> Result<Vec<u64>, AllocError> {
     let mut base = Vec::new(heap);
     let mut first = 0u32;
     for _copy in 0..shape.copies {
@@ -111,7 +111,7 @@ fn key_count(shape: Shape) -> u32 {
 }
 
 // A look-up for each key of the registers, or for as many others, in the order of the numbers they come from.
-pub fn each(heap: Global, shape: Shape, keys: Keys) -> Result<Vec<Question>, AllocError> {
+pub(crate) fn each(heap: Global, shape: Shape, keys: Keys) -> Result<Vec<Question>, AllocError> {
     let mut questions = Vec::new(heap);
     for number in 0..key_count(shape) {
         questions.push(question_of(shape, number, keys))?;
@@ -120,7 +120,7 @@ pub fn each(heap: Global, shape: Shape, keys: Keys) -> Result<Vec<Question>, All
 }
 
 // Look-ups of keys of the registers in no order, or of others.
-pub fn mixed(heap: Global, shape: Shape, keys: Keys) -> Result<Vec<Question>, AllocError> {
+pub(crate) fn mixed(heap: Global, shape: Shape, keys: Keys) -> Result<Vec<Question>, AllocError> {
     let mut questions = Vec::new(heap);
     let all = key_count(shape).max(1);
     for i in 0..QUESTIONS {

@@ -62,7 +62,7 @@ impl Times {
     };
 
     // The sum of what all runs found.
-    pub fn sum(&self) -> u64 {
+    pub(crate) fn sum(&self) -> u64 {
         self.present
             .sum
             .wrapping_add(self.read.sum)
@@ -149,7 +149,7 @@ fn time_room<const SLOTS: usize, const PLACES: usize>(
 }
 
 // Times one run in room of a size that suits the registers.
-pub fn time_index(
+pub(crate) fn time_index(
     rt: &LibcRuntime,
     base: &[u64],
     questions: Questions,

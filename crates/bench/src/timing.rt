@@ -21,7 +21,7 @@ impl Found {
     pub const NONE: Found = Found { keys: 0, sum: 0 };
 
     // One more, with what it adds to the sum.
-    pub fn add(&mut self, part: u64) {
+    pub(crate) fn add(&mut self, part: u64) {
         self.keys = self.keys.wrapping_add(1);
         self.sum = self.sum.wrapping_add(part);
     }
@@ -36,7 +36,7 @@ impl Timed {
     };
 
     // One more run.
-    pub fn add(&mut self, taken: Duration, found: Found) {
+    pub(crate) fn add(&mut self, taken: Duration, found: Found) {
         let nanos = u64::try_from(taken.as_nanos()).unwrap_or(u64::MAX);
         self.least = self.least.min(nanos);
         self.keys = found.keys;
@@ -44,7 +44,7 @@ impl Timed {
     }
 
     // The time of one of so many parts of a run.
-    pub fn per(&self, parts: usize) -> Tenths {
+    pub(crate) fn per(&self, parts: usize) -> Tenths {
         let parts = (parts as u64).max(1);
         Tenths {
             whole: self.least / parts,

@@ -5,6 +5,8 @@ ghost use Rattle.std.specs.declared.option.Option.the-variants.{Some};
 ghost use Rattle.registers.specs.Indexing.{Indexed};
 ghost use Rattle.registers.specs.Refusals.{refusal};
 ghost use Rattle.ask.specs.Summary.{Reports, summary-of};
+use registers::filling::MAX_PLACES;
+use registers::filling::MAX_SLOTS;
 use registers::filling::fill;
 use registers::index::Index;
 use registers::layout::Directory;
@@ -90,8 +92,8 @@ pub fn summarize(base: &[u64]) -> Result<Report, Refusal>
     let Ok(directory) = surveyed else {
         return surveyed.and(Ok(NONE));
     };
-    let mut slots = [Slot::FREE; 65544];
-    let mut places = [0; 32768];
+    let mut slots = [Slot::FREE; MAX_SLOTS];
+    let mut places = [0; MAX_PLACES];
     let filled = fill(base, &directory, &mut slots, &mut places);
     let Ok(()) = filled else {
         return filled.and(Ok(NONE));

@@ -4,6 +4,8 @@ ghost use Rattle.registers.specs.Indexing.{Enough, Indexed, Room};
 use crate::samples::Question;
 use crate::timing::Found;
 use crate::timing::Timed;
+use registers::filling::MAX_PLACES;
+use registers::filling::MAX_SLOTS;
 use registers::filling::fill;
 use registers::index::Index;
 use registers::layout::Directory;
@@ -164,6 +166,6 @@ pub(crate) fn time_index(
     } else if blocks <= 512 {
         time_room::<1032, 512>(rt, base, &directory, questions, times)
     } else {
-        time_room::<65544, 32768>(rt, base, &directory, questions, times)
+        time_room::<MAX_SLOTS, MAX_PLACES>(rt, base, &directory, questions, times)
     }
 }

@@ -46,7 +46,7 @@ fn try_enter<const SLOTS: usize, const PLACES: usize>(base: &[u64], section: Sec
     enter_blocks(base, section, &mut slots[0..size], &mut places[0..blocks])
 }
 
-// Whether a register is proper, found in room of one of two sizes.
+// Whether a register is proper, found in room of one of two sizes: b places and 2 b + 1 slots for at most b blocks.
 fn try_register(base: &[u64], section: Section) -> bool
     requires stands { ⌜ Stands (now base) section ⌝ }
     requires few { ⌜ section .blocks ≤ 4096 ⌝ }
@@ -73,7 +73,7 @@ fn try_registers(base: &[u64], directory: &Directory) -> Result<(), Refusal>
     Ok(())
 }
 
-// The same in room that is no larger than the registers ask for.
+// The same in room that is no larger than the registers ask for: b places and 2 b + 8 slots for at most b blocks.
 fn try_room(base: &[u64], directory: &Directory) -> Result<(), Refusal>
     requires { ⌜ Enough (now base) (now directory) 65544 32768 ⌝ }
     ensures { λ r. ⌜ r ≡ answered (refused-at Blocks (misstated (now (base .entry)))) tt ⌝ }

@@ -10,10 +10,17 @@ ghost use Rattle.registers.specs.Layout.{register-at};
 ghost use Rattle.registers.specs.Refusals.{answered, misstated, refused-at};
 ghost use Rattle.registers.specs.Table.{free};
 use crate::layout::Directory;
+use crate::layout::MAX_BLOCKS;
+use crate::layout::MAX_REGISTERS;
 use crate::layout::Section;
 use crate::refusals::Refusal;
 use crate::table::Slot;
 use crate::table::probe;
+
+// Room for any registers: a place for each block, and two slots for each block and one more for each register.
+pub const MAX_PLACES: usize = MAX_REGISTERS * MAX_BLOCKS as usize;
+
+pub const MAX_SLOTS: usize = 2 * MAX_PLACES + MAX_REGISTERS;
 
 // Frees all slots and clears all places.
 fn clear(slots: &mut [Slot], places: &mut [usize])

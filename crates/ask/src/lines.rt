@@ -1,6 +1,7 @@
 // What the program prints of registers, line by line.
 use crate::summary::{Summary, summarize};
 use registers::refusals::Refusal;
+use std::alloc::Global;
 use std::io::{BufWriter, Write};
 use std::{fmt, io};
 
@@ -73,8 +74,8 @@ impl fmt::Display for RegisterLine {
 }
 
 // Writes a line for each register, or the one line of their refusal.
-pub(crate) fn tell<W: Write + Drop>(out: W, base: &[u64]) -> io::Result<()> {
-    let mut out = BufWriter::new(out);
+pub(crate) fn tell<W: Write + Drop>(alloc: Global, out: W, base: &[u64]) -> io::Result<()> {
+    let mut out = BufWriter::new(alloc, out)?;
     match summarize(base) {
         Ok(report) => {
             let summaries = report.registers.iter().enumerate();

@@ -1,5 +1,7 @@
 // Reads registers from the file that the argument names, or from standard input, and says what stands in them, or why
 // they are refused.
+#![tactic(auto)]
+
 mod failure;
 mod lines;
 mod summary;
@@ -8,11 +10,12 @@ use failure::Failure;
 use input::numbers::Numbers;
 use input::source;
 use std::env;
+use std::process::ExitCode;
 
 // What the registers say, told on standard output.
 fn run(rt: &HostRuntime) -> Result<(), Failure> {
     let numbers = read(rt)?;
-    match lines::tell(rt.stdout(), numbers.as_slice()) {
+    match lines::tell(rt.alloc(), rt.stdout(), numbers.as_slice()) {
         Ok(()) => Ok(()),
         Err(reason) => Err(Failure::Output { reason }),
     }
@@ -41,10 +44,12 @@ fn read(rt: &HostRuntime) -> Result<Numbers, Failure> {
     }
 }
 
-fn main(rt: HostRuntime) -> Result<(), Failure> {
-    let result = run(&rt);
-    if let Err(failure) = &result {
-        let _ = eprintln!(rt; "ask: {failure}");
+fn main(rt: HostRuntime) -> ExitCode {
+    match run(&rt) {
+        Ok(()) => ExitCode::SUCCESS,
+        Err(failure) => {
+            let _ = eprintln!(rt; "ask: {failure}");
+            ExitCode::FAILURE
+        }
     }
-    result
 }

@@ -8,6 +8,7 @@ use input_bytes::numbers::WIDTH;
 use questions::layout::SIGN_LEN;
 use questions::widths;
 use registers::refusals::Refusal;
+use std::alloc::Global;
 use std::io::{BufWriter, Write};
 use std::{fmt, io};
 
@@ -110,8 +111,13 @@ fn tell_questions<W: Write>(
 }
 
 // Writes a line for each register and for each question behind them, or the one line of the registers' refusal.
-pub(crate) fn tell<W: Write + Drop>(out: W, base: &[u64], bytes: &[u8]) -> io::Result<()> {
-    let mut out = BufWriter::new(out);
+pub(crate) fn tell<W: Write + Drop>(
+    alloc: Global,
+    out: W,
+    base: &[u64],
+    bytes: &[u8],
+) -> io::Result<()> {
+    let mut out = BufWriter::new(alloc, out)?;
     match summarize(base) {
         Ok(report) => {
             let summaries = report.registers.iter().enumerate();

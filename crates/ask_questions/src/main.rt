@@ -1,5 +1,7 @@
 // Reads registers and questions from the file that the argument names, or from standard input, and says what stands in
 // them, or why they are refused.
+#![tactic(auto)]
+
 mod failure;
 mod lines;
 mod parts;
@@ -10,11 +12,12 @@ use failure::Failure;
 use input_bytes::bytes::Input;
 use input_bytes::source;
 use std::env;
+use std::process::ExitCode;
 
 // What is read, told on standard output.
 fn run(rt: &HostRuntime) -> Result<(), Failure> {
     let input = read(rt)?;
-    match lines::tell(rt.stdout(), input.numbers(), input.bytes()) {
+    match lines::tell(rt.alloc(), rt.stdout(), input.numbers(), input.bytes()) {
         Ok(()) => Ok(()),
         Err(reason) => Err(Failure::Output { reason }),
     }
@@ -43,10 +46,12 @@ fn read(rt: &HostRuntime) -> Result<Input, Failure> {
     }
 }
 
-fn main(rt: HostRuntime) -> Result<(), Failure> {
-    let result = run(&rt);
-    if let Err(failure) = &result {
-        let _ = eprintln!(rt; "ask: {failure}");
+fn main(rt: HostRuntime) -> ExitCode {
+    match run(&rt) {
+        Ok(()) => ExitCode::SUCCESS,
+        Err(failure) => {
+            let _ = eprintln!(rt; "ask_questions: {failure}");
+            ExitCode::FAILURE
+        }
     }
-    result
 }

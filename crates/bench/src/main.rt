@@ -1,5 +1,7 @@
 // Tries look-ups in made-up registers, or, with the argument `figures`, times the check of registers and look-ups in
 // them.
+#![tactic(auto)]
+
 mod answers;
 mod checks;
 mod figures;

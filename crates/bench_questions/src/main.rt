@@ -1,4 +1,6 @@
 // Tries the reading of made-up questions, or, with the argument `figures`, times it.
+#![tactic(auto)]
+
 mod readings;
 mod timing;
 

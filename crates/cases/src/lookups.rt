@@ -8,7 +8,7 @@ use std::test::Fail;
 // Each of these keys has its own number in its row, in register 1.
 fn check_numbers(rt: &impl Abort, base: &[u64], keys: &[u64]) -> Result<(), Fail> {
     for (i, key) in keys.iter().enumerate() {
-        assert_eq!(rt; look_up(base, 1, *key)?, Some(&[i as u64]), "{}", *key);
+        assert_eq!(rt; look_up(base, 1, *key)?, Some(&[i as u64][..]), "{key}");
     }
     Ok(())
 }
@@ -18,15 +18,15 @@ fn check_numbers(rt: &impl Abort, base: &[u64], keys: &[u64]) -> Result<(), Fail
 fn example(rt: HostRuntime) -> Result<(), Fail> {
     let base = sluices(rt.alloc())?;
     let base = base.as_slice();
-    assert_eq!(rt; look_up(base, 0, 1)?, Some(&[10, 4]));
-    assert_eq!(rt; look_up(base, 0, 2)?, Some(&[10, 6, 11, 6]));
-    assert_eq!(rt; look_up(base, 0, 3)?, Some(&[12, 5]));
-    assert_eq!(rt; look_up(base, 0, 4)?, Some(&[11, 9, 11, 8]));
-    assert_eq!(rt; look_up(base, 1, 10)?, Some(&[3, 7]));
-    assert_eq!(rt; look_up(base, 1, 11)?, Some(&[3, 7, 5, 7]));
-    assert_eq!(rt; look_up(base, 1, 12)?, Some(&[2, 8]));
-    assert_eq!(rt; look_up(base, 2, 7)?, Some(&[1]));
-    assert_eq!(rt; look_up(base, 2, 8)?, Some(&[1, 0]));
+    assert_eq!(rt; look_up(base, 0, 1)?, Some(&[10, 4][..]));
+    assert_eq!(rt; look_up(base, 0, 2)?, Some(&[10, 6, 11, 6][..]));
+    assert_eq!(rt; look_up(base, 0, 3)?, Some(&[12, 5][..]));
+    assert_eq!(rt; look_up(base, 0, 4)?, Some(&[11, 9, 11, 8][..]));
+    assert_eq!(rt; look_up(base, 1, 10)?, Some(&[3, 7][..]));
+    assert_eq!(rt; look_up(base, 1, 11)?, Some(&[3, 7, 5, 7][..]));
+    assert_eq!(rt; look_up(base, 1, 12)?, Some(&[2, 8][..]));
+    assert_eq!(rt; look_up(base, 2, 7)?, Some(&[1][..]));
+    assert_eq!(rt; look_up(base, 2, 8)?, Some(&[1, 0][..]));
     Ok(())
 }
 
@@ -73,9 +73,9 @@ fn all_full(rt: HostRuntime) -> Result<(), Fail> {
     }
     let base = base.as_slice();
     assert_eq!(rt; registers::check(base), Ok(()));
-    assert_eq!(rt; look_up(base, 0, 0)?, Some(&[0]));
-    assert_eq!(rt; look_up(base, 2, 2000)?, Some(&[2000, 2000, 2000]));
-    assert_eq!(rt; look_up(base, 7, 4095)?, Some(&[4095; 8]));
+    assert_eq!(rt; look_up(base, 0, 0)?, Some(&[0][..]));
+    assert_eq!(rt; look_up(base, 2, 2000)?, Some(&[2000, 2000, 2000][..]));
+    assert_eq!(rt; look_up(base, 7, 4095)?, Some(&[4095; 8][..]));
     assert!(rt; look_up(base, 7, 4096)?.is_none());
     assert!(rt; look_up(base, 8, 0)?.is_none());
     Ok(())

@@ -49,7 +49,7 @@ fn cut_short(rt: HostRuntime) -> Result<(), Fail> {
             23..39 => 1,
             _ => 2,
         };
-        assert_eq!(rt; checked(&base[0..len]), layout(register), "{}", len);
+        assert_eq!(rt; checked(&base[0..len]), layout(register), "{len}");
     }
     assert_eq!(rt; checked(base), Ok(()));
     Ok(())
@@ -67,7 +67,7 @@ fn counts(rt: HostRuntime) -> Result<(), Fail> {
             1..9 => Ok(()),
             _ => layout(8),
         };
-        assert_eq!(rt; checked(base.as_slice()), expected, "{}", count);
+        assert_eq!(rt; checked(base.as_slice()), expected, "{count}");
     }
     assert_eq!(rt; checked(&[NUMBER_LIMIT + 1, 0, 1]), layout(8));
     Ok(())
@@ -103,7 +103,7 @@ fn numbers(rt: HostRuntime) {
             1 | 2 => 0,
             _ => 1,
         };
-        assert_eq!(rt; checked(&base), layout(register), "{}", place);
+        assert_eq!(rt; checked(&base), layout(register), "{place}");
     }
 }
 

@@ -100,7 +100,7 @@ fn parts(rt: HostRuntime) -> Result<(), Fail> {
         assert_eq!(rt; list.as_slice(), expected.concat(heap)?.as_slice());
         let signs = wide(heap, number)?;
         let list = listed(heap, &[2, 2, 1], signs.as_slice())?;
-        assert_eq!(rt; list.as_slice(), &[0, 0, 1, 1, 2, 6, 0]);
+        assert_eq!(rt; list.as_slice(), &[0, 0, 1, 1, 2, 6, 0][..]);
     }
     Ok(())
 }
@@ -115,7 +115,7 @@ fn rows(rt: HostRuntime) -> Result<(), Fail> {
     let signs = signs.as_slice();
     let list = listed(heap, &[4], signs)?;
     let expected = [0, 0, 4, 0, 0, 5, 1, 1, 6, 2, 2, 7, 3, 3, 8, 0];
-    assert_eq!(rt; list.as_slice(), &expected);
+    assert_eq!(rt; list.as_slice(), &expected[..]);
     assert!(rt; passes(&rt, &[4], signs, &[5, 7, 7, 8])?);
     assert!(rt; passes(&rt, &[4], signs, &[5, 5, 9, 0])?);
     assert!(rt; !passes(&rt, &[4], signs, &[6, 7, 7, 8])?);

@@ -33,12 +33,12 @@ fn answers(cell: u64, number: u64) -> [bool; 4] {
 #[test]
 fn neighbours(rt: HostRuntime) {
     for number in [0, NUMBER_LIMIT - 1, NUMBER_LIMIT, u64::MAX] {
-        assert_eq!(rt; answers(number, number), AT, "{}", number);
+        assert_eq!(rt; answers(number, number), AT, "{number}");
         if number > 0 {
-            assert_eq!(rt; answers(number - 1, number), BELOW, "{}", number);
+            assert_eq!(rt; answers(number - 1, number), BELOW, "{number}");
         }
         if number < u64::MAX {
-            assert_eq!(rt; answers(number + 1, number), ABOVE, "{}", number);
+            assert_eq!(rt; answers(number + 1, number), ABOVE, "{number}");
         }
     }
 }

@@ -63,10 +63,10 @@ fn check_limits(
             continue;
         };
         let met = altered(heap, &WIDENING, signs, sign, place, limit)?;
-        assert_eq!(rt; met, Ok(()), "{}", place);
+        assert_eq!(rt; met, Ok(()), "{place}");
         for number in [limit.wrapping_add(1), u64::MAX] {
             let past = altered(heap, &WIDENING, signs, sign, place, number)?;
-            assert_eq!(rt; past, unread(sign), "{}", place);
+            assert_eq!(rt; past, unread(sign), "{place}");
         }
     }
     Ok(())

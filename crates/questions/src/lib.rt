@@ -2,6 +2,8 @@
 //
 // `check` takes any registers and any signs. The crates above read the signs of a question, and ask each sign for its
 // register, its tests and its further questions by `Signs`.
+#![tactic(auto)]
+
 mod asked;
 mod entry;
 pub mod kinds;

@@ -3,6 +3,8 @@
 //
 // `check` and `look_up` take any slice. The crates above survey a slice, fill room of their own with the index of its
 // keys, and go over its registers, blocks and rows by an `Index`.
+#![tactic(auto)]
+
 pub mod blocks;
 mod entry;
 pub mod filling;

@@ -4,8 +4,8 @@ use Rattle.registers.proofs.Placing.{enough_count}
 use Rattle.ask.proofs.Summing.{Reporting, reporting_more}
 use Rattle.ask.proofs.summary.sum_up_all.Goals as goal
 
-pub offset-bounds-registers-t : goal.offset-bounds-registers-t
-offset-bounds-registers-t c =
+pub offset_bounds-registers-t : goal.offset_bounds-registers-t
+offset_bounds-registers-t c =
     let few = (limits_hold _ c.requires.sound).few_registers in
     let count = enough_count _ _ _ _ c.requires.enough in
     omega (arith, length_base c.args.base.now)
@@ -20,7 +20,7 @@ pub loop-t-preserved : goal.loop-t-preserved
 loop-t-preserved c =
     let few = (limits_hold _ c.requires.sound).few_registers in
     let count = enough_count _ _ _ _ c.requires.enough in
-    reporting_more _ _ _ _ c.loop-t.invariant (omega (arith, length_base c.args.base.now)) c.sum-up.ensures
+    reporting_more _ _ _ _ c.loop-t.invariant (omega (arith, length_base c.args.base.now)) c.sum_up.ensures
 
 pub returns : goal.returns
 returns c =

@@ -7,8 +7,8 @@ use Rattle.ask_questions.proofs.Summing.{held_rows, same_summary, summed_all, su
 use Rattle.ask_questions.proofs.summary.sum_up.Goals as goal
 use Rattle.ask_questions.proofs.summary.sum_up.Goals.{then-block-gt1, else-block-gt1}
 
-pub overflow-add-rows : goal.overflow-add-rows
-overflow-add-rows c =
+pub overflow_add-rows : goal.overflow_add-rows
+overflow_add-rows c =
     let there : c.loop-i.i < length (register (base_of c.args.index.now.base.now) c.args.t) = omega (arith, c.blocks-blocks.ensures) in
     let few = (index_within c.args.index.now).few_rows c.args.t c.loop-i.i (register_inside _ _ _ there) there in
     omega (arith, c.loop-i.invariant.few_rows, held_rows (register (base_of c.args.index.now.base.now) c.args.t) c.loop-i.i c.block-block.result c.block-block.ensures.block, (index_within c.args.index.now).few_blocks c.args.t (register_inside (base_of c.args.index.now.base.now) c.args.t c.loop-i.i there))

@@ -4,8 +4,8 @@ use Rattle.registers.proofs.Placing.{enough_count}
 use Rattle.ask_questions.proofs.Summing.{Reporting, end_of_last, reporting_more}
 use Rattle.ask_questions.proofs.summary.sum_up_all.Goals as goal
 
-pub offset-bounds-registers-t : goal.offset-bounds-registers-t
-offset-bounds-registers-t c =
+pub offset_bounds-registers-t : goal.offset_bounds-registers-t
+offset_bounds-registers-t c =
     let few = (limits_hold _ c.requires.sound).few_registers in
     let count = enough_count _ _ _ _ c.requires.enough in
     omega (arith, length_base c.args.base.now)
@@ -20,16 +20,16 @@ pub loop-t-preserved : goal.loop-t-preserved
 loop-t-preserved c =
     let few = (limits_hold _ c.requires.sound).few_registers in
     let count = enough_count _ _ _ _ c.requires.enough in
-    reporting_more _ _ _ _ c.loop-t.invariant (omega (arith, length_base c.args.base.now)) c.sum-up.ensures
+    reporting_more _ _ _ _ c.loop-t.invariant (omega (arith, length_base c.args.base.now)) c.sum_up.ensures
 
-pub overflow-sub-end : goal.overflow-sub-end
-overflow-sub-end c =
+pub overflow_sub-end : goal.overflow_sub-end
+overflow_sub-end c =
     let some = (limits_hold _ c.requires.sound).some_register in
     let count = enough_count _ _ _ _ c.requires.enough in
     omega (arith, length_base c.args.base.now)
 
-pub offset-bounds-directory-count : goal.offset-bounds-directory-count
-offset-bounds-directory-count c =
+pub offset_bounds-directory-count : goal.offset_bounds-directory-count
+offset_bounds-directory-count c =
     let few = (limits_hold _ c.requires.sound).few_registers in
     let count = enough_count _ _ _ _ c.requires.enough in
     omega (arith, length_base c.args.base.now)

@@ -5,10 +5,10 @@ use Rattle.registers.specs.Table.{free}
 use Rattle.registers.proofs.Checking.{answered_err, enough_all, surveyed_none, told_blocks, told_layout}
 use Rattle.ask_questions.proofs.summary.summarize.Goals as goal
 
-pub returns-in-default : goal.returns-in-default
+pub returns-in_default : goal.returns-in_default
 unfolding refusal
-returns-in-default c =
-    simp (c.and.ensures, c.in-default.is) (answered_err _ _ (tt {0}) (told_layout _ (misstated c.args.base.now) _ _ (tt {0}) c.in-default.ensures))
+returns-in_default c =
+    simp (c.and.ensures, c.in_default.is) (answered_err _ _ (tt {0}) (told_layout _ (misstated c.args.base.now) _ _ (tt {0}) c.in_default.ensures))
 
 pub fill-filled-requires : goal.fill-filled-requires
 fill-filled-requires c =
@@ -19,8 +19,8 @@ fill-filled-requires c =
       places_free = ap (λ (n : ℕ). replicate n 0) (sym (length-replicate {A = ℕ} 32768 0));
     }
 
-pub returns-in-default-filled : goal.returns-in-default-filled
+pub returns-in_default-filled : goal.returns-in_default-filled
 unfolding refusal
-returns-in-default-filled c =
+returns-in_default-filled c =
     let none = surveyed_none _ _ _ c.in-Ok.ensures in
-    simp (c.and-in-default-filled.ensures, c.in-default-filled.is) (answered_err _ _ (tt {0}) (told_blocks _ _ _ _ (tt {0}) none.0 c.in-default-filled.ensures.answer))
+    simp (c.and-in_default-filled.ensures, c.in_default-filled.is) (answered_err _ _ (tt {0}) (told_blocks _ _ _ _ (tt {0}) none.0 c.in_default-filled.ensures.answer))

@@ -13,5 +13,5 @@ passes-requires c =
     let width : width_of question (question_at question 0) ≡ get_or c.args.widths.now c.register-register.result 0 =
     ap (λ (ws : List ℕ). get_or ws (register_of (question_at question 0)) 0) c.over-question.ensures.widths
     ∙ ap (λ (t : ℕ). get_or c.args.widths.now t 0) (sym c.register-register.ensures.value) in
-    let short : get_or c.args.widths.now c.register-register.result 0 ≤ length c.args.row.now = lit≤ c.in-ok-check.ensures.0 in
+    let short : get_or c.args.widths.now c.register-register.result 0 ≤ length c.args.row.now = lit≤ c.in_ok-check.ensures.0 in
     record { sign = first_there question; wide = omega (arith, width, short) }

@@ -8,19 +8,19 @@ use Rattle.questions.proofs.Columns.{count_few, length_widths, told_first, told_
 use Rattle.questions.proofs.Meaning.{means}
 use Rattle.questions.proofs.entry.check.Goals as goal
 
-pub returns-in-default : goal.returns-in-default
+pub returns-in_default : goal.returns-in_default
 unfolding refusal_of
-returns-in-default c =
+returns-in_default c =
     record {
-      value = c.and.ensures ∙ simp c.in-default.is (told_first _ _ _ _ _ c.in-default.ensures);
+      value = c.and.ensures ∙ simp c.in_default.is (told_first _ _ _ _ _ c.in_default.ensures);
       means = λ none.
-          let some = answered_err _ _ _ c.in-default.ensures in
+          let some = answered_err _ _ _ c.in_default.ensures in
           let z : ◌≡◌ {A = ℕ} 0 1 = cc in
           absurd (omega arith);
     }
 
-pub slice-bounds-read-end : goal.slice-bounds-read-end
-slice-bounds-read-end c =
+pub slice_bounds-read-end : goal.slice_bounds-read-end
+slice_bounds-read-end c =
     let sound = answered_ok _ _ _ c.in-Ok.ensures in
     let few = count_few c.args.base.now c.in-Ok.directory sound.0 sound.1 in
     omega (arith, few, ap length c.widths-widths.ensures, length_widths c.in-Ok.directory)

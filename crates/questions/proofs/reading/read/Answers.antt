@@ -12,19 +12,19 @@ returns-then-signs c =
     let value = told_long c.args.widths.now c.args.signs.now (outline_of c.args.widths.now c.args.signs.now) c.if-signs.true in
     record { value = value; means = means _ _ _ _ value }
 
-pub returns-in-default : goal.returns-in-default
-returns-in-default c =
+pub returns-in_default : goal.returns-in_default
+returns-in_default c =
     let value : c.and.result ≡ answered (signs_refusal c.args.widths.now c.args.signs.now) (outline_of c.args.widths.now c.args.signs.now) =
-    c.and.ensures ∙ simp c.in-default.is (told_unread _ _ _ c.if-signs.false _ c.in-default.ensures.answer) in
+    c.and.ensures ∙ simp c.in_default.is (told_unread _ _ _ c.if-signs.false _ c.in_default.ensures.answer) in
     record { value = value; means = means _ _ _ _ value }
 
-pub overflow-mul-count : goal.overflow-mul-count
-overflow-mul-count c =
+pub overflow_mul-count : goal.overflow_mul-count
+overflow_mul-count c =
     let bounds = outcome_bounds _ _ c.if-signs.false _ _ c.in-Ok.ensures.answer in
     omega (arith, bounds.1)
 
-pub gone-twice-requires : goal.gone-twice-requires
-gone-twice-requires c = omega arith
+pub gone_twice-requires : goal.gone_twice-requires
+gone_twice-requires c = omega arith
 
 pub returns-then-count-signs : goal.returns-then-count-signs
 returns-then-count-signs c =
@@ -43,8 +43,8 @@ returns-in-Some c =
 pub returns : goal.returns
 returns c =
     let outline =
-    outlined c.args.widths.now c.args.signs.now c.if-signs.false c.in-Ok.count c.read-question-read.new.ends
-    c.in-Ok.ensures.answer c.if-count-signs.false c.read-question-read.auto.ends c.in-Ok.ensures.noted in
+    outlined c.args.widths.now c.args.signs.now c.if-signs.false c.in-Ok.count c.read_question-read.new.ends
+    c.in-Ok.ensures.answer c.if-count-signs.false c.read_question-read.auto.ends c.in-Ok.ensures.noted in
     let value =
-    ap Ok outline ∙ told_simple _ _ _ c.if-signs.false _ c.in-Ok.ensures.answer c.if-count-signs.false c.in-default-gone-twice.ensures in
+    ap Ok outline ∙ told_simple _ _ _ c.if-signs.false _ c.in-Ok.ensures.answer c.if-count-signs.false c.in_default-gone_twice.ensures in
     record { value = value; means = means _ _ _ _ value }

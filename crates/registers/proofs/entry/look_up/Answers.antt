@@ -15,8 +15,8 @@ returns-then-register-directory c =
     let count = enough_count _ _ _ _ (enough_all _ _ (sound_parts c.args.base.now sound.0).0 sound.1) in
     (sound.0, ap (has_key c.args.key) (register_beyond c.args.base.now c.args.register (omega arith)))
 
-pub offset-bounds-directory-register : goal.offset-bounds-directory-register
-offset-bounds-directory-register c =
+pub offset_bounds-directory-register : goal.offset_bounds-directory-register
+offset_bounds-directory-register c =
     let sound = answered_ok _ _ _ c.in-Ok.ensures in
     let u = (surveyed_turn _ _ c.args.register sound.0 sound.1 c.if-register-directory.false).0 in
     omega arith

@@ -5,19 +5,19 @@ use Rattle.registers.proofs.Fitting.{fit_from}
 use Rattle.registers.proofs.Noting.{stands_inside}
 use Rattle.registers.proofs.entry.scan.Goals as goal
 
-pub overflow-add-at : goal.overflow-add-at
-overflow-add-at c = omega (arith, (fit_from _ _ c.requires.fits).heading)
+pub overflow_add-at : goal.overflow_add-at
+overflow_add-at c = omega (arith, (fit_from _ _ c.requires.fits).heading)
 
 pub loop-i-init : goal.loop-i-init
 loop-i-init c = passing_none _ _ _ _
 
-pub overflow-add-rows : goal.overflow-add-rows
-overflow-add-rows c =
+pub overflow_add-rows : goal.overflow_add-rows
+overflow_add-rows c =
     let b = stands_inside _ _ _ _ c.requires c.loop-i.invariant.place c.loop-i-test.true in
     omega arith
 
-pub offset-bounds-base-at : goal.offset-bounds-base-at
-offset-bounds-base-at c =
+pub offset_bounds-base-at : goal.offset_bounds-base-at
+offset_bounds-base-at c =
     let b = stands_inside _ _ _ _ c.requires c.loop-i.invariant.place c.loop-i-test.true in
     omega arith
 
@@ -26,23 +26,23 @@ bounds-base-at c =
     let b = stands_inside _ _ _ _ c.requires c.loop-i.invariant.place c.loop-i-test.true in
     omega arith
 
-pub overflow-add-from : goal.overflow-add-from
-overflow-add-from c =
+pub overflow_add-from : goal.overflow_add-from
+overflow_add-from c =
     let b = stands_inside _ _ _ _ c.requires c.loop-i.invariant.place c.loop-i-test.true in
     omega arith
 
-pub overflow-mul-to : goal.overflow-mul-to
-overflow-mul-to c =
+pub overflow_mul-to : goal.overflow_mul-to
+overflow_mul-to c =
     let b = stands_inside _ _ _ _ c.requires c.loop-i.invariant.place c.loop-i-test.true in
     omega arith
 
-pub overflow-add-to : goal.overflow-add-to
-overflow-add-to c =
+pub overflow_add-to : goal.overflow_add-to
+overflow_add-to c =
     let b = stands_inside _ _ _ _ c.requires c.loop-i.invariant.place c.loop-i-test.true in
     omega arith
 
-pub offset-bounds-base-at-in-loop-i : goal.offset-bounds-base-at-in-loop-i
-offset-bounds-base-at-in-loop-i c =
+pub offset_bounds-base-at-in-loop-i : goal.offset_bounds-base-at-in-loop-i
+offset_bounds-base-at-in-loop-i c =
     let b = stands_inside _ _ _ _ c.requires c.loop-i.invariant.place c.loop-i-test.true in
     omega arith
 
@@ -51,13 +51,13 @@ bounds-base-at-in-loop-i c =
     let b = stands_inside _ _ _ _ c.requires c.loop-i.invariant.place c.loop-i-test.true in
     omega arith
 
-pub offset-bounds-base-from : goal.offset-bounds-base-from
-offset-bounds-base-from c =
+pub offset_bounds-base-from : goal.offset_bounds-base-from
+offset_bounds-base-from c =
     let b = stands_inside _ _ _ _ c.requires c.loop-i.invariant.place c.loop-i-test.true in
     omega arith
 
-pub slice-bounds-result-end : goal.slice-bounds-result-end
-slice-bounds-result-end c =
+pub slice_bounds-result-end : goal.slice_bounds-result-end
+slice_bounds-result-end c =
     let b = stands_inside _ _ _ _ c.requires c.loop-i.invariant.place c.loop-i-test.true in
     omega arith
 
@@ -69,4 +69,4 @@ unfolding block_end
 loop-i-preserved c = passing_more _ _ _ _ _ _ c.loop-i.invariant c.if-base-at.false
 
 pub returns : goal.returns
-returns c = scan_lacks _ _ _ _ _ c.requires c.loop-i.invariant c.loop-i-test.false c.loop-i.auto.-i-end
+returns c = scan_lacks _ _ _ _ _ c.requires c.loop-i.invariant c.loop-i-test.false c.loop-i.auto._i-end

@@ -3,8 +3,8 @@ use Rattle.std.proofs.lemmas.List.{length-replicate, length-take, take-replicate
 use Rattle.registers.specs.Table.{free}
 use Rattle.registers.proofs.entry.try_enter.Goals as goal
 
-pub enter-blocks-requires : goal.enter-blocks-requires
-enter-blocks-requires g c =
+pub enter_blocks-requires : goal.enter_blocks-requires
+enter_blocks-requires g c =
     let size : 2 * c.args.section.blocks + 1 - 0 ≡ 2 * c.args.section.blocks + 1 = omega arith in
     record {
       stands = c.requires.stands;

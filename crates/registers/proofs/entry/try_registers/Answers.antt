@@ -12,8 +12,8 @@ pub loop-t-init : goal.loop-t-init
 unfolding first_failing
 loop-t-init c = refl
 
-pub offset-bounds-directory-t : goal.offset-bounds-directory-t
-offset-bounds-directory-t c =
+pub offset_bounds-directory-t : goal.offset_bounds-directory-t
+offset_bounds-directory-t c =
     let u = (enough_turn _ _ c.loop-t.t c.requires c.loop-t-test.true).0 in
     omega arith
 
@@ -22,24 +22,24 @@ bounds-directory-t c =
     let u = (enough_turn _ _ c.loop-t.t c.requires c.loop-t-test.true).0 in
     omega arith
 
-pub try-register-requires : goal.try-register-requires
-try-register-requires c =
+pub try_register-requires : goal.try_register-requires
+try_register-requires c =
     let u = enough_turn _ _ c.loop-t.t c.requires c.loop-t-test.true in
     record { stands = u.1; few = u.0.few_blocks }
 
-pub returns-then-not-try-register : goal.returns-then-not-try-register
+pub returns-then-not-try_register : goal.returns-then-not-try_register
 unfolding misstated
-returns-then-not-try-register c =
+returns-then-not-try_register c =
     let u = (enough_turn _ _ c.loop-t.t c.requires c.loop-t-test.true).0 in
     told_at Blocks _ _ _
     (first_failing_is _ _ c.loop-t.t u.less c.loop-t.invariant
-    (ap (λ (p : ℕ). proper_register (register_at c.args.base.now p)) (sym u.place) ∙ sym c.if-not-try-register.ensures))
+    (ap (λ (p : ℕ). proper_register (register_at c.args.base.now p)) (sym u.place) ∙ sym c.if-not-try_register.ensures))
 
 pub loop-t-preserved : goal.loop-t-preserved
 loop-t-preserved c =
     let u = (enough_turn _ _ c.loop-t.t c.requires c.loop-t-test.true).0 in
     first_failing_more _ _ c.loop-t.invariant
-    (ap (λ (p : ℕ). proper_register (register_at c.args.base.now p)) (sym u.place) ∙ sym c.if-not-try-register.ensures)
+    (ap (λ (p : ℕ). proper_register (register_at c.args.base.now p)) (sym u.place) ∙ sym c.if-not-try_register.ensures)
 
 pub returns : goal.returns
 unfolding misstated

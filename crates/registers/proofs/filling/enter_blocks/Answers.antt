@@ -7,14 +7,14 @@ use Rattle.registers.proofs.Noting.{entered_ends, noting_more, noting_none, noti
 use Rattle.registers.proofs.filling.enter_blocks.Goals as goal
 use Rattle.registers.proofs.filling.enter_blocks.Goals.{then-rows-eq0-via-then-rows-eq0, then-rows-eq0-via-else-rows-eq0+then-met-ne0}
 
-pub overflow-add-at : goal.overflow-add-at
-overflow-add-at c = omega (arith, (fit_from _ _ c.requires.stands.fits).heading)
+pub overflow_add-at : goal.overflow_add-at
+overflow_add-at c = omega (arith, (fit_from _ _ c.requires.stands.fits).heading)
 
 pub loop-i-init : goal.loop-i-init
 loop-i-init c = noting_none _ _ _ _ _ _ c.requires.slots c.requires.room
 
-pub offset-bounds-base-at : goal.offset-bounds-base-at
-offset-bounds-base-at c =
+pub offset_bounds-base-at : goal.offset_bounds-base-at
+offset_bounds-base-at c =
     let b = stands_inside _ _ _ _ c.requires.stands c.loop-i.invariant.place c.loop-i-test.true in
     omega arith
 
@@ -23,13 +23,13 @@ bounds-base-at c =
     let b = stands_inside _ _ _ _ c.requires.stands c.loop-i.invariant.place c.loop-i-test.true in
     omega arith
 
-pub overflow-add-rows : goal.overflow-add-rows
-overflow-add-rows c =
+pub overflow_add-rows : goal.overflow_add-rows
+overflow_add-rows c =
     let b = stands_inside _ _ _ _ c.requires.stands c.loop-i.invariant.place c.loop-i-test.true in
     omega arith
 
-pub offset-bounds-base-at-in-loop-i : goal.offset-bounds-base-at-in-loop-i
-offset-bounds-base-at-in-loop-i c =
+pub offset_bounds-base-at-in-loop-i : goal.offset_bounds-base-at-in-loop-i
+offset_bounds-base-at-in-loop-i c =
     let b = stands_inside _ _ _ _ c.requires.stands c.loop-i.invariant.place c.loop-i-test.true in
     omega arith
 
@@ -52,8 +52,8 @@ returns-then-rows-eq0 c =
       entered = λ e. absurd (true≢false (sym e));
     }
 
-pub overflow-mul-at : goal.overflow-mul-at
-overflow-mul-at c =
+pub overflow_mul-at : goal.overflow_mul-at
+overflow_mul-at c =
     let b = stands_inside _ _ _ _ c.requires.stands c.loop-i.invariant.place c.loop-i-test.true in
     omega arith
 
@@ -62,13 +62,13 @@ unfolding block_end
 loop-i-preserved c =
     noting_more _ _ _ _ _ _ _ _ c.loop-i.invariant c.probe-slot.result c.loop-i-test.true c.probe-slot.ensures c.if-met-ne0.false c.if-rows-eq0.false
 
-pub overflow-add-at-in-loop-i : goal.overflow-add-at-in-loop-i
-overflow-add-at-in-loop-i c =
+pub overflow_add-at-in-loop-i : goal.overflow_add-at-in-loop-i
+overflow_add-at-in-loop-i c =
     let b = stands_inside _ _ _ _ c.requires.stands c.loop-i.invariant.place c.loop-i-test.true in
     omega arith
 
-pub overflow-add-at-in-loop-i-2 : goal.overflow-add-at-in-loop-i-2
-overflow-add-at-in-loop-i-2 c =
+pub overflow_add-at-in-loop-i-2 : goal.overflow_add-at-in-loop-i-2
+overflow_add-at-in-loop-i-2 c =
     let b = stands_inside _ _ _ _ c.requires.stands c.loop-i.invariant.place c.loop-i-test.true in
     omega arith
 

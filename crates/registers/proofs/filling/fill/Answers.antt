@@ -11,8 +11,8 @@ use Rattle.registers.proofs.filling.fill.Goals as goal
 pub loop-t-init : goal.loop-t-init
 loop-t-init c = placed_none _ _ _ _ c.requires
 
-pub offset-bounds-directory-t : goal.offset-bounds-directory-t
-offset-bounds-directory-t c =
+pub offset_bounds-directory-t : goal.offset_bounds-directory-t
+offset_bounds-directory-t c =
     let u = turn _ _ _ _ _ _ c.loop-t.t c.requires c.loop-t-test.true c.loop-t.auto.slots c.loop-t.auto.places in
     omega arith
 
@@ -21,70 +21,70 @@ bounds-directory-t c =
     let u = turn _ _ _ _ _ _ c.loop-t.t c.requires c.loop-t-test.true c.loop-t.auto.slots c.loop-t.auto.places in
     omega arith
 
-pub overflow-mul-from : goal.overflow-mul-from
-overflow-mul-from c =
+pub overflow_mul-from : goal.overflow_mul-from
+overflow_mul-from c =
     let u = turn _ _ _ _ _ _ c.loop-t.t c.requires c.loop-t-test.true c.loop-t.auto.slots c.loop-t.auto.places in
     omega arith
 
-pub overflow-add-from : goal.overflow-add-from
-overflow-add-from c =
+pub overflow_add-from : goal.overflow_add-from
+overflow_add-from c =
     let u = turn _ _ _ _ _ _ c.loop-t.t c.requires c.loop-t-test.true c.loop-t.auto.slots c.loop-t.auto.places in
     omega arith
 
-pub overflow-mul-to : goal.overflow-mul-to
-overflow-mul-to c =
+pub overflow_mul-to : goal.overflow_mul-to
+overflow_mul-to c =
     let u = turn _ _ _ _ _ _ c.loop-t.t c.requires c.loop-t-test.true c.loop-t.auto.slots c.loop-t.auto.places in
     omega arith
 
-pub overflow-add-to : goal.overflow-add-to
-overflow-add-to c =
+pub overflow_add-to : goal.overflow_add-to
+overflow_add-to c =
     let u = turn _ _ _ _ _ _ c.loop-t.t c.requires c.loop-t-test.true c.loop-t.auto.slots c.loop-t.auto.places in
     omega arith
 
-pub overflow-add-to-in-loop-t : goal.overflow-add-to-in-loop-t
-overflow-add-to-in-loop-t c =
+pub overflow_add-to-in-loop-t : goal.overflow_add-to-in-loop-t
+overflow_add-to-in-loop-t c =
     let u = turn _ _ _ _ _ _ c.loop-t.t c.requires c.loop-t-test.true c.loop-t.auto.slots c.loop-t.auto.places in
     omega arith
 
-pub overflow-add-last : goal.overflow-add-last
-overflow-add-last c =
+pub overflow_add-last : goal.overflow_add-last
+overflow_add-last c =
     let u = turn _ _ _ _ _ _ c.loop-t.t c.requires c.loop-t-test.true c.loop-t.auto.slots c.loop-t.auto.places in
     omega arith
 
-pub offset-bounds-slots-from : goal.offset-bounds-slots-from
-offset-bounds-slots-from c =
+pub offset_bounds-slots-from : goal.offset_bounds-slots-from
+offset_bounds-slots-from c =
     let u = turn _ _ _ _ _ _ c.loop-t.t c.requires c.loop-t-test.true c.loop-t.auto.slots c.loop-t.auto.places in
     omega arith
 
-pub slice-bounds-enter-blocks-end : goal.slice-bounds-enter-blocks-end
-slice-bounds-enter-blocks-end c =
+pub slice_bounds-enter_blocks-end : goal.slice_bounds-enter_blocks-end
+slice_bounds-enter_blocks-end c =
     let u = turn _ _ _ _ _ _ c.loop-t.t c.requires c.loop-t-test.true c.loop-t.auto.slots c.loop-t.auto.places in
     omega arith
 
-pub offset-bounds-places-first : goal.offset-bounds-places-first
-offset-bounds-places-first c =
+pub offset_bounds-places-first : goal.offset_bounds-places-first
+offset_bounds-places-first c =
     let u = turn _ _ _ _ _ _ c.loop-t.t c.requires c.loop-t-test.true c.loop-t.auto.slots c.loop-t.auto.places in
     omega arith
 
-pub slice-bounds-enter-blocks-end-in-loop-t : goal.slice-bounds-enter-blocks-end-in-loop-t
-slice-bounds-enter-blocks-end-in-loop-t c =
+pub slice_bounds-enter_blocks-end-in-loop-t : goal.slice_bounds-enter_blocks-end-in-loop-t
+slice_bounds-enter_blocks-end-in-loop-t c =
     let u = turn _ _ _ _ _ _ c.loop-t.t c.requires c.loop-t-test.true c.loop-t.auto.slots c.loop-t.auto.places in
     omega arith
 
-pub enter-blocks-requires : goal.enter-blocks-requires
-enter-blocks-requires c =
+pub enter_blocks-requires : goal.enter_blocks-requires
+enter_blocks-requires c =
     let u = turn _ _ _ _ _ _ c.loop-t.t c.requires c.loop-t-test.true c.loop-t.auto.slots c.loop-t.auto.places in
     placed_awaits _ _ _ _ _ _ _ _ _ c.loop-t.invariant u.0 u.1 refl refl refl refl
 
-pub returns-then-not-enter-blocks : goal.returns-then-not-enter-blocks
-returns-then-not-enter-blocks c =
+pub returns-then-not-enter_blocks : goal.returns-then-not-enter_blocks
+returns-then-not-enter_blocks c =
     let u = turn _ _ _ _ _ _ c.loop-t.t c.requires c.loop-t-test.true c.loop-t.auto.slots c.loop-t.auto.places in
-    let table = c.enter-blocks.auto.table ∙ length-between c.loop-t.slots _ _ u.0.table in
-    let noted = c.enter-blocks.auto.places ∙ length-between c.loop-t.places _ _ u.0.noted in
+    let table = c.enter_blocks.auto.table ∙ length-between c.loop-t.slots _ _ u.0.table in
+    let noted = c.enter_blocks.auto.places ∙ length-between c.loop-t.places _ _ u.0.noted in
     record {
       answer = told_at Blocks _ _ _
           (placed_stops _ _ _ _ c.loop-t.invariant u.0.less
-          (ap (λ (p : ℕ). proper_register (register_at c.args.base.now p)) (sym u.0.place) ∙ sym c.if-not-enter-blocks.ensures.proper));
+          (ap (λ (p : ℕ). proper_register (register_at c.args.base.now p)) (sym u.0.place) ∙ sym c.if-not-enter_blocks.ensures.proper));
       room = (
         c.clear.ensures.slots ∙ ap (λ (n : ℕ). replicate n free) (length_put_mid _ _ c.loop-t.slots _ table (omega arith) ∙ c.loop-t.auto.slots) ∙ sym c.requires.slots_free,
         c.clear.ensures.places ∙ ap (λ (n : ℕ). replicate n 0) (length_put_mid _ _ c.loop-t.places _ noted (omega arith) ∙ c.loop-t.auto.places) ∙ sym c.requires.places_free,
@@ -95,10 +95,10 @@ pub loop-t-preserved : goal.loop-t-preserved
 loop-t-preserved c =
     let u = turn _ _ _ _ _ _ c.loop-t.t c.requires c.loop-t-test.true c.loop-t.auto.slots c.loop-t.auto.places in
     placed_more _ _ _ _ _ _ _ _ _ _ _ c.loop-t.invariant u.0 refl refl refl refl
-    (c.enter-blocks.auto.table ∙ length-between c.loop-t.slots _ _ u.0.table)
-    (c.enter-blocks.auto.places ∙ length-between c.loop-t.places _ _ u.0.noted)
-    (sym c.if-not-enter-blocks.ensures.proper)
-    (c.if-not-enter-blocks.ensures.entered refl)
+    (c.enter_blocks.auto.table ∙ length-between c.loop-t.slots _ _ u.0.table)
+    (c.enter_blocks.auto.places ∙ length-between c.loop-t.places _ _ u.0.noted)
+    (sym c.if-not-enter_blocks.ensures.proper)
+    (c.if-not-enter_blocks.ensures.entered refl)
 
 pub returns : goal.returns
 returns c =

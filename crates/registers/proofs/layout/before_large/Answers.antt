@@ -4,17 +4,17 @@ use Rattle.std.proofs.lemmas.List.Sums.{prefix_len-drop_yes, prefix_len-drop_no,
 use Rattle.registers.proofs.Small.{run_all}
 use Rattle.registers.proofs.layout.before_large.Goals as goal
 
-pub returns-then-all-bits-lt-NUMBER-LIMIT : goal.returns-then-all-bits-lt-NUMBER-LIMIT
-returns-then-all-bits-lt-NUMBER-LIMIT c =
-    sym (run_all c.args.numbers.now (λ k h. omega (arith, c.all-bits.ensures k h, c.if-all-bits-lt-NUMBER-LIMIT.true)))
+pub returns-then-all_bits-lt-NUMBER_LIMIT : goal.returns-then-all_bits-lt-NUMBER_LIMIT
+returns-then-all_bits-lt-NUMBER_LIMIT c =
+    sym (run_all c.args.numbers.now (λ k h. omega (arith, c.all_bits.ensures k h, c.if-all_bits-lt-NUMBER_LIMIT.true)))
 
-pub returns-then-x-ge-NUMBER-LIMIT : goal.returns-then-x-ge-NUMBER-LIMIT
-returns-then-x-ge-NUMBER-LIMIT c =
+pub returns-then-x-ge-NUMBER_LIMIT : goal.returns-then-x-ge-NUMBER_LIMIT
+returns-then-x-ge-NUMBER_LIMIT c =
     omega (
       arith,
       c.loop-i.invariant,
       prefix_len-drop_no (λ x. ltb x 4294967296) c.args.numbers.now c.loop-i.i 0 c.loop-i-test.true
-          (le-ltb _ _ c.if-x-ge-NUMBER-LIMIT.true),
+          (le-ltb _ _ c.if-x-ge-NUMBER_LIMIT.true),
     )
 
 pub loop-i-preserved : goal.loop-i-preserved
@@ -23,7 +23,7 @@ loop-i-preserved c =
       arith,
       c.loop-i.invariant,
       prefix_len-drop_yes (λ x. ltb x 4294967296) c.args.numbers.now c.loop-i.i 0 c.loop-i-test.true
-          (lt-ltb _ _ c.if-x-ge-NUMBER-LIMIT.false),
+          (lt-ltb _ _ c.if-x-ge-NUMBER_LIMIT.false),
     )
 
 pub returns : goal.returns

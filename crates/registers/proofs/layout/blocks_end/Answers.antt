@@ -11,10 +11,10 @@ returns-then-base-at-lt2 c =
     let cut : length c.args.base.now < c.loop-i.at + 2 = omega (arith, c.loop-i.invariant.inside) in
     walked_stops _ _ _ _ _ _ _ _ c.loop-i.invariant c.loop-i-test.true (block_fits_no_heading _ _ _ cut)
 
-pub returns-then-rows-gt-MAX-ROWS : goal.returns-then-rows-gt-MAX-ROWS
-returns-then-rows-gt-MAX-ROWS c =
+pub returns-then-rows-gt-MAX_ROWS : goal.returns-then-rows-gt-MAX_ROWS
+returns-then-rows-gt-MAX_ROWS c =
     walked_stops _ _ _ _ _ _ _ _ c.loop-i.invariant c.loop-i-test.true
-    (block_fits_many_rows c.args.base.now c.args.columns c.loop-i.at c.if-rows-gt-MAX-ROWS.true)
+    (block_fits_many_rows c.args.base.now c.args.columns c.loop-i.at c.if-rows-gt-MAX_ROWS.true)
 
 pub returns-then-end-base : goal.returns-then-end-base
 unfolding block_end
@@ -26,5 +26,5 @@ pub loop-i-preserved : goal.loop-i-preserved
 unfolding block_end
 loop-i-preserved c =
     walked_more _ _ _ _ _ c.loop-i.invariant
-    (block_fits_all _ _ _ (omega (arith, c.loop-i.invariant.inside)) c.if-rows-gt-MAX-ROWS.false c.if-end-base.false)
+    (block_fits_all _ _ _ (omega (arith, c.loop-i.invariant.inside)) c.if-rows-gt-MAX_ROWS.false c.if-end-base.false)
     c.if-end-base.false

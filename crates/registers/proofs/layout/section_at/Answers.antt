@@ -6,28 +6,28 @@ use Rattle.registers.proofs.Small.{run, run_le_length}
 use Rattle.registers.proofs.Fitting.{from_some, from_none, register_fits_no_heading, register_fits_limits, register_fits_cut, register_fits_there}
 use Rattle.registers.proofs.layout.section_at.Goals as goal
 
-pub overflow-sub-base : goal.overflow-sub-base
-overflow-sub-base c = omega (arith, run_le_length c.args.base.now)
+pub overflow_sub-base : goal.overflow_sub-base
+overflow_sub-base c = omega (arith, run_le_length c.args.base.now)
 
 pub returns-then-base-at-lt2 : goal.returns-then-base-at-lt2
 returns-then-base-at-lt2 c =
     sym (cond-false _ _ _ (register_fits_no_heading c.args.base.now c.args.at (omega (arith, run_le_length c.args.base.now))))
 
-pub returns-then-blocks-gt-MAX-BLOCKS : goal.returns-then-blocks-gt-MAX-BLOCKS
-returns-then-blocks-gt-MAX-BLOCKS c =
+pub returns-then-blocks-gt-MAX_BLOCKS : goal.returns-then-blocks-gt-MAX_BLOCKS
+returns-then-blocks-gt-MAX_BLOCKS c =
     sym (cond-false _ _ _
-    (register_fits_limits c.args.base.now c.args.at (λ a b d. omega (arith, c.then-blocks-gt-MAX-BLOCKS.either))))
+    (register_fits_limits c.args.base.now c.args.at (λ a b d. omega (arith, c.then-blocks-gt-MAX_BLOCKS.either))))
 
-pub returns-in-default : goal.returns-in-default
-returns-in-default c =
-    sym (cond-false _ _ _ (register_fits_cut c.args.base.now c.args.at (from_none _ _ c.in-default.ensures)))
+pub returns-in_default : goal.returns-in_default
+returns-in_default c =
+    sym (cond-false _ _ _ (register_fits_cut c.args.base.now c.args.at (from_none _ _ c.in_default.ensures)))
 
 pub returns-then-end-large : goal.returns-then-end-large
 unfolding register_end
 returns-then-end-large c =
     let got = from_some _ _ _ c.in-Some.ensures in
     sym (cond-false _ _ _
-    (register_fits_there c.args.base.now c.args.at (omega arith) (omega (arith, run_le_length c.args.base.now)) c.if-blocks-gt-MAX-BLOCKS.false (omega arith) c.if-columns-gt-MAX-COLUMNS.false got.0
+    (register_fits_there c.args.base.now c.args.at (omega arith) (omega (arith, run_le_length c.args.base.now)) c.if-blocks-gt-MAX_BLOCKS.false (omega arith) c.if-columns-gt-MAX_COLUMNS.false got.0
     ∙ lt-leb (register_end c.args.base.now c.args.at) (run c.args.base.now) (omega arith)))
 
 pub returns : goal.returns
@@ -35,6 +35,6 @@ unfolding register_end
 returns c =
     let got = from_some _ _ _ c.in-Some.ensures in
     let fits : register_fits c.args.base.now c.args.at ≡ true =
-    register_fits_there c.args.base.now c.args.at (omega arith) (omega (arith, run_le_length c.args.base.now)) c.if-blocks-gt-MAX-BLOCKS.false (omega arith) c.if-columns-gt-MAX-COLUMNS.false got.0
+    register_fits_there c.args.base.now c.args.at (omega arith) (omega (arith, run_le_length c.args.base.now)) c.if-blocks-gt-MAX_BLOCKS.false (omega arith) c.if-columns-gt-MAX_COLUMNS.false got.0
     ∙ le-leb (register_end c.args.base.now c.args.at) (run c.args.base.now) (omega arith) in
     ap (λ (e : ℕ). Some (record { place = c.args.at; end = e; blocks = blocks_at c.args.base.now c.args.at; columns = columns_at c.args.base.now c.args.at; first = c.args.first })) got.1 ∙ sym (cond-true _ _ _ fits)

@@ -1,6 +1,6 @@
 use Rattle.input_bytes.specs.Numbers.{numbers_of}
 use Rattle.input_bytes.proofs.bytes.Input.with_room.Goals as goal
 
-pub invariant-of-result : goal.invariant-of-result
+pub invariant_of-result : goal.invariant_of-result
 unfolding numbers_of
-invariant-of-result c = (rw c.in-ok-bytes.ensures.items c.in-ok-numbers.ensures.items, tt)
+invariant_of-result c = record { agree = rw c.in_ok-bytes.ensures.items c.in_ok-numbers.ensures.items }

@@ -3,8 +3,8 @@ use Rattle.questions.specs.Signs.{number_at}
 use Rattle.questions.proofs.Asking.{column_is, column_within, further_are, sign_in}
 use Rattle.questions.proofs.signs.Signs.column.Goals as goal
 
-pub overflow-add-i : goal.overflow-add-i
-overflow-add-i c =
+pub overflow_add-i : goal.overflow_add-i
+overflow_add-i c =
     let few = (sign_in c.args.self.now c.args.sign c.requires.sign).fit.few_further in
     omega (arith, few, further_are c.args.self.now c.args.sign c.requires.sign, c.requires.further)
 

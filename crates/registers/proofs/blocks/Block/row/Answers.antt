@@ -2,13 +2,13 @@ use Rattle.std.proofs.Common.{◌≡◌, ℕ, ◌+◌, ◌-◌, ◌*◌, ◌≤�
 use Rattle.registers.proofs.Views.{row_there}
 use Rattle.registers.proofs.blocks.Block.row.Goals as goal
 
-pub offset-bounds-self-from : goal.offset-bounds-self-from
-offset-bounds-self-from c =
+pub offset_bounds-self-from : goal.offset_bounds-self-from
+offset_bounds-self-from c =
     let whole : (c.args.i + 1) * c.args.self.now.columns ≤ c.args.self.now.rows * c.args.self.now.columns = mul-le-mul_right c.args.self.now.columns (omega (arith, c.requires)) in
     omega (arith, c.args.self.now.shaped)
 
-pub slice-bounds-result-end : goal.slice-bounds-result-end
-slice-bounds-result-end c =
+pub slice_bounds-result-end : goal.slice_bounds-result-end
+slice_bounds-result-end c =
     let whole : (c.args.i + 1) * c.args.self.now.columns ≤ c.args.self.now.rows * c.args.self.now.columns = mul-le-mul_right c.args.self.now.columns (omega (arith, c.requires)) in
     omega (arith, c.args.self.now.shaped)
 

@@ -3,8 +3,8 @@ use Rattle.registers.proofs.Finding.{held_there, located}
 use Rattle.registers.proofs.Views.{columns_there}
 use Rattle.registers.proofs.index.Index.block.Goals as goal
 
-pub offset-bounds-self-t : goal.offset-bounds-self-t
-offset-bounds-self-t c =
+pub offset_bounds-self-t : goal.offset_bounds-self-t
+offset_bounds-self-t c =
     let b = located _ _ _ _ c.args.t c.args.number c.args.self.now.sound c.requires in
     omega arith
 
@@ -13,13 +13,13 @@ bounds-self-t c =
     let b = located _ _ _ _ c.args.t c.args.number c.args.self.now.sound c.requires in
     omega arith
 
-pub overflow-add-at : goal.overflow-add-at
-overflow-add-at c =
+pub overflow_add-at : goal.overflow_add-at
+overflow_add-at c =
     let b = located _ _ _ _ c.args.t c.args.number c.args.self.now.sound c.requires in
     omega arith
 
-pub offset-bounds-self-section : goal.offset-bounds-self-section
-offset-bounds-self-section c =
+pub offset_bounds-self-section : goal.offset_bounds-self-section
+offset_bounds-self-section c =
     let b = located _ _ _ _ c.args.t c.args.number c.args.self.now.sound c.requires in
     omega arith
 
@@ -28,13 +28,13 @@ bounds-self-section c =
     let b = located _ _ _ _ c.args.t c.args.number c.args.self.now.sound c.requires in
     omega arith
 
-pub overflow-add-rows : goal.overflow-add-rows
-overflow-add-rows c =
+pub overflow_add-rows : goal.overflow_add-rows
+overflow_add-rows c =
     let b = located _ _ _ _ c.args.t c.args.number c.args.self.now.sound c.requires in
     omega arith
 
-pub offset-bounds-self-at : goal.offset-bounds-self-at
-offset-bounds-self-at c =
+pub offset_bounds-self-at : goal.offset_bounds-self-at
+offset_bounds-self-at c =
     let b = located _ _ _ _ c.args.t c.args.number c.args.self.now.sound c.requires in
     omega arith
 
@@ -43,23 +43,23 @@ bounds-self-at c =
     let b = located _ _ _ _ c.args.t c.args.number c.args.self.now.sound c.requires in
     omega arith
 
-pub overflow-add-from : goal.overflow-add-from
-overflow-add-from c =
+pub overflow_add-from : goal.overflow_add-from
+overflow_add-from c =
     let b = located _ _ _ _ c.args.t c.args.number c.args.self.now.sound c.requires in
     omega arith
 
-pub overflow-mul-to : goal.overflow-mul-to
-overflow-mul-to c =
+pub overflow_mul-to : goal.overflow_mul-to
+overflow_mul-to c =
     let b = located _ _ _ _ c.args.t c.args.number c.args.self.now.sound c.requires in
     omega arith
 
-pub overflow-add-to : goal.overflow-add-to
-overflow-add-to c =
+pub overflow_add-to : goal.overflow_add-to
+overflow_add-to c =
     let b = located _ _ _ _ c.args.t c.args.number c.args.self.now.sound c.requires in
     omega arith
 
-pub offset-bounds-self-at-2 : goal.offset-bounds-self-at-2
-offset-bounds-self-at-2 c =
+pub offset_bounds-self-at-2 : goal.offset_bounds-self-at-2
+offset_bounds-self-at-2 c =
     let b = located _ _ _ _ c.args.t c.args.number c.args.self.now.sound c.requires in
     omega arith
 
@@ -68,13 +68,13 @@ bounds-self-at-2 c =
     let b = located _ _ _ _ c.args.t c.args.number c.args.self.now.sound c.requires in
     omega arith
 
-pub offset-bounds-self-from : goal.offset-bounds-self-from
-offset-bounds-self-from c =
+pub offset_bounds-self-from : goal.offset_bounds-self-from
+offset_bounds-self-from c =
     let b = located _ _ _ _ c.args.t c.args.number c.args.self.now.sound c.requires in
     omega arith
 
-pub slice-bounds-cells-end : goal.slice-bounds-cells-end
-slice-bounds-cells-end c =
+pub slice_bounds-cells-end : goal.slice_bounds-cells-end
+slice_bounds-cells-end c =
     let b = located _ _ _ _ c.args.t c.args.number c.args.self.now.sound c.requires in
     omega arith
 

@@ -3,8 +3,8 @@ use Rattle.registers.proofs.Finding.{index_count, index_turn}
 use Rattle.registers.proofs.Views.{length_register, register_beyond, register_there}
 use Rattle.registers.proofs.index.Index.blocks.Goals as goal
 
-pub offset-bounds-self-t : goal.offset-bounds-self-t
-offset-bounds-self-t c =
+pub offset_bounds-self-t : goal.offset_bounds-self-t
+offset_bounds-self-t c =
     let u = index_turn _ _ _ _ c.args.self.now.sound c.args.t c.if-t-self.true in
     omega arith
 

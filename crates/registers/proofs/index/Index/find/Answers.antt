@@ -13,8 +13,8 @@ returns-then-t-self c =
     sym (ap (number_under c.args.key) (register_beyond c.args.self.now.base.now c.args.t (omega (arith, index_count _ _ _ _ c.args.self.now.sound, c.if-t-self.true)))) in
     record { value = value; means = meant _ _ _ value }
 
-pub offset-bounds-self-t : goal.offset-bounds-self-t
-offset-bounds-self-t c =
+pub offset_bounds-self-t : goal.offset_bounds-self-t
+offset_bounds-self-t c =
     let u = index_turn _ _ _ _ c.args.self.now.sound c.args.t c.if-t-self.false in
     omega arith
 
@@ -23,46 +23,46 @@ bounds-self-t c =
     let u = index_turn _ _ _ _ c.args.self.now.sound c.args.t c.if-t-self.false in
     omega arith
 
-pub overflow-mul-from : goal.overflow-mul-from
-overflow-mul-from c =
+pub overflow_mul-from : goal.overflow_mul-from
+overflow_mul-from c =
     let u = index_turn _ _ _ _ c.args.self.now.sound c.args.t c.if-t-self.false in
     omega arith
 
-pub overflow-add-from : goal.overflow-add-from
-overflow-add-from c =
+pub overflow_add-from : goal.overflow_add-from
+overflow_add-from c =
     let u = index_turn _ _ _ _ c.args.self.now.sound c.args.t c.if-t-self.false in
     omega arith
 
-pub overflow-mul-to : goal.overflow-mul-to
-overflow-mul-to c =
+pub overflow_mul-to : goal.overflow_mul-to
+overflow_mul-to c =
     let u = index_turn _ _ _ _ c.args.self.now.sound c.args.t c.if-t-self.false in
     omega arith
 
-pub overflow-add-to : goal.overflow-add-to
-overflow-add-to c =
+pub overflow_add-to : goal.overflow_add-to
+overflow_add-to c =
     let u = index_turn _ _ _ _ c.args.self.now.sound c.args.t c.if-t-self.false in
     omega arith
 
-pub overflow-add-to-2 : goal.overflow-add-to-2
-overflow-add-to-2 c =
+pub overflow_add-to-2 : goal.overflow_add-to-2
+overflow_add-to-2 c =
     let u = index_turn _ _ _ _ c.args.self.now.sound c.args.t c.if-t-self.false in
     omega arith
 
-pub offset-bounds-self-from : goal.offset-bounds-self-from
-offset-bounds-self-from c =
+pub offset_bounds-self-from : goal.offset_bounds-self-from
+offset_bounds-self-from c =
     let u = index_turn _ _ _ _ c.args.self.now.sound c.args.t c.if-t-self.false in
     omega arith
 
-pub slice-bounds-table-end : goal.slice-bounds-table-end
-slice-bounds-table-end c =
+pub slice_bounds-table-end : goal.slice_bounds-table-end
+slice_bounds-table-end c =
     let u = index_turn _ _ _ _ c.args.self.now.sound c.args.t c.if-t-self.false in
     omega arith
 
 pub probe-requires : goal.probe-requires
 probe-requires c = index_open _ _ _ _ c.args.self.now.sound c.args.t c.if-t-self.false _ refl
 
-pub offset-bounds-table-probe : goal.offset-bounds-table-probe
-offset-bounds-table-probe c =
+pub offset_bounds-table-probe : goal.offset_bounds-table-probe
+offset_bounds-table-probe c =
     let short = (index_open _ _ _ _ c.args.self.now.sound c.args.t c.if-t-self.false _ refl).short in
     omega (arith, c.probe.ensures.inside)
 

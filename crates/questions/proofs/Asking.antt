@@ -10,7 +10,7 @@ use Rattle.questions.specs.declared.signs.Signs.{Signs}
 use Rattle.questions.specs.Questions.{Further, Question, and_at, ask, columns_in, further_of, no_more, questions_in, simple, tests_of}
 use Rattle.questions.specs.Meaning.{Whole}
 use Rattle.questions.specs.Reading.{count_of, end_of, ends_of, outline_of, question_of}
-use Rattle.questions.specs.Refusals.{refused, signs_refusal}
+use Rattle.questions.specs.Refusals.{signs_refusal}
 use Rattle.questions.specs.Signs.{Follow, Reading, Stands, asked, column_fits, columns_at, number_at, read, reads, register_at, test_at, test_fits, tests_at}
 use Rattle.questions.specs.Views.{question_at, signs_in, width_of}
 use Rattle.registers.proofs.Checking.{answered_ok}

@@ -1,8 +1,8 @@
 -- Where reading stops: the signs before can be read, and that one cannot.
-use Rattle.std.proofs.Common.{◌≡◌, ℕ, zero, suc, ◌+◌, ◌*◌, ◌<◌, ◌≤◌, true, false, ◌⊎◌, List, [], ◌∷◌, length, sym, ap, ◌∙◌, ⊎_elim, arith}
+use Rattle.std.proofs.Common.{◌≡◌, ℕ, zero, suc, ◌+◌, ◌*◌, ◌<◌, ◌≤◌, true, false, List, [], ◌∷◌, length, sym, ap, ◌∙◌, ⊎_elim, arith}
 use Rattle.std.proofs.lemmas.Bool.{cases_Bool, cases_lt, cond-false, cond-true}
 use Rattle.std.proofs.lemmas.Bool.Decides.{nat_tests}
-use Rattle.questions.specs.Signs.{columns_at, read, reads_deep, reads_further, reads_sign, sign_fits, sign_len, stuck}
+use Rattle.questions.specs.Signs.{columns_at, reads_deep, reads_further, reads_sign, sign_fits, sign_len, stuck}
 use Rattle.questions.proofs.Deep.{then_stuck}
 use Rattle.questions.proofs.Trees.{deep_stands, stands_bounds, stands_fits}
 

@@ -1,4 +1,4 @@
-use Rattle.std.proofs.Common.{◌≡◌, ℕ, ◌≤◌, List, length, get_or, sym, ap, ◌∙◌, arith, lit≤}
+use Rattle.std.proofs.Common.{◌≡◌, ℕ, ◌≤◌, List, length, get_or, sym, ap, ◌∙◌, arith}
 use Rattle.questions.specs.Questions.{register_of}
 use Rattle.questions.specs.Views.{question_at, width_of}
 use Rattle.questions.proofs.Asking.{first_there}

@@ -4,13 +4,12 @@ use Rattle.std.proofs.lemmas.List.{drop_all, append-nil, length-take, length-tak
 use Rattle.std.proofs.lemmas.Bool.{cases_lt, cond-false, cond-true, le-ltb, lt-ltb}
 use Rattle.input_bytes.specs.Numbers.{numbers_of}
 use Rattle.input_bytes.proofs.Places.{length_numbers}
-use Rattle.registers.specs.declared.refusals.Refusal.{Refusal}
-use Rattle.registers.specs.declared.refusals.Refusal.TheVariants.{Signs, Twice}
-use Rattle.registers.specs.Refusals.{answered, refused_at}
+use Rattle.questions.specs.declared.refusals.Refusal.{Refusal}
+use Rattle.questions.specs.declared.refusals.Refusal.TheVariants.{Signs, Twice}
 use Rattle.questions.specs.declared.outline.Outline.{Outline}
 use Rattle.questions.specs.Questions.{Question, first_again, goes_to}
 use Rattle.questions.specs.Reading.{outline_of}
-use Rattle.questions.specs.Refusals.{refused, signs_refusal}
+use Rattle.questions.specs.Refusals.{answered, refused_at, refused, signs_refusal}
 use Rattle.questions.specs.Signs.{Reading, asked, read, stuck}
 use Rattle.questions.proofs.Meaning.{read_sound}
 use Rattle.ask_questions.specs.Parts.{cut_refusal, first_place, next_place, part_refusal, part_signs, said, signs_of, stopped, stops}

@@ -4,8 +4,8 @@
 -- number is four bytes, low byte first. The byte says where the next question begins, whatever else is wrong.
 use Rattle.std.specs.Prelude.{ℕ, ◌+◌, ◌*◌, cond, List, length, take, drop, Some, None, Ok, Err, Option, Result, nat_lt, slice_index}
 use Rattle.input_bytes.specs.Numbers.{numbers_of}
-use Rattle.registers.specs.declared.refusals.Refusal.{Refusal}
-use Rattle.registers.specs.declared.refusals.Refusal.TheVariants.{Layout, Blocks, Signs, Twice}
+use Rattle.questions.specs.declared.refusals.Refusal.{Refusal}
+use Rattle.questions.specs.declared.refusals.Refusal.TheVariants.{Registers, Signs, Twice}
 use Rattle.questions.specs.declared.outline.Outline.{Outline}
 use Rattle.questions.specs.Questions.{Question}
 use Rattle.questions.specs.Refusals.{signs_refusal}
@@ -27,8 +27,7 @@ stops (read q e) = e
 -- the same of what reading answers, where so many signs are there
 abbrev pub stopped : Result Outline Refusal → (signs : ℕ) → ℕ
 stopped (Ok outline) signs = signs
-stopped (Err (Layout t)) signs = signs
-stopped (Err (Blocks t)) signs = signs
+stopped (Err (Registers r)) signs = signs
 stopped (Err (Signs s)) signs = s
 stopped (Err (Twice t)) signs = signs
 

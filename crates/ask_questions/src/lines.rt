@@ -6,8 +6,8 @@ use crate::summary::{Summary, summarize};
 use crate::words::say_line;
 use input_bytes::numbers::WIDTH;
 use questions::layout::SIGN_LEN;
+use questions::refusals::Refusal;
 use questions::widths;
-use registers::refusals::Refusal;
 use std::alloc::Global;
 use std::io::{BufWriter, Write};
 use std::{fmt, io};
@@ -130,7 +130,10 @@ pub(crate) fn tell<W: Write + Drop>(
             let from = report.end.saturating_mul(WIDTH);
             tell_questions(&mut out, &widths[0..count], bytes, from)?;
         }
-        Err(refusal) => writeln!(out, "{}", RefusalLine { refusal })?,
+        Err(reason) => {
+            let refusal = Refusal::from(reason);
+            writeln!(out, "{}", RefusalLine { refusal })?;
+        }
     }
     out.flush()
 }

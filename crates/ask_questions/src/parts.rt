@@ -1,6 +1,6 @@
 // Questions in the input: each is one byte for how many signs it has, the signs, and a number for the column to be summed.
 ghost use Rattle.std.specs.Prelude.{◌≡◌, ◌*◌, ◌<◌, ◌≤◌, length, take, OnOk};
-ghost use Rattle.registers.specs.Refusals.{answered};
+ghost use Rattle.questions.specs.Refusals.{answered};
 ghost use Rattle.questions.specs.Reading.{outline_of};
 ghost use Rattle.questions.specs.Signs.{most_signs, sign_len};
 ghost use Rattle.ask_questions.specs.Parts.{cut_refusal, first_place, next_place, part_refusal, part_signs, said, signs_of, stopped};
@@ -9,7 +9,7 @@ use input_bytes::numbers::{WIDTH, decode};
 use questions::layout::{MAX_SIGNS, SIGN_LEN};
 use questions::outline::Outline;
 use questions::reading;
-use registers::refusals::Refusal;
+use questions::refusals::Refusal;
 
 // Room for the numbers of all signs.
 pub(crate) const ROOM: usize = MAX_SIGNS * SIGN_LEN;

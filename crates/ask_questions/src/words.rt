@@ -1,8 +1,7 @@
 // A question said back in words.
 ghost use Rattle.std.specs.Prelude.{◌≡◌, ◌<◌, Ok};
-ghost use Rattle.registers.specs.Refusals.{answered};
 ghost use Rattle.questions.specs.Reading.{outline_of};
-ghost use Rattle.questions.specs.Refusals.{signs_refusal};
+ghost use Rattle.questions.specs.Refusals.{answered, signs_refusal};
 ghost use Rattle.questions.specs.Views.{signs_in};
 
 use questions::kinds::{Kind, Test};

@@ -9,7 +9,7 @@ use readings::{COPIES, FORMS};
 use std::env;
 
 // How often each time is taken.
-const RUNS: usize = 9;
+const RUNS: usize = 15;
 
 // Prints how many questions of each form are read as they should.
 fn tell_answers(rt: &HostRuntime) -> anyhow::Result<()> {

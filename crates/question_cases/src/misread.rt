@@ -3,7 +3,8 @@ use crate::bases::{WIDENING, sluices};
 use crate::signs::{branching, drained, full};
 use questions::check as checked;
 use questions::layout::SIGN_LEN;
-use registers::refusals::Refusal;
+use questions::refusals::Refusal;
+use registers::refusals::Refusal as RegistersRefusal;
 use std::alloc::Global;
 use std::process::Abort;
 use std::test::Fail;
@@ -97,12 +98,7 @@ fn lengths(rt: HostRuntime) -> Result<(), Fail> {
             58..153 => unread(3),
             _ => unread(8),
         };
-        assert_eq!(rt;
-            checked(base.as_slice(), &signs[0..len]),
-            expected,
-            "{}",
-            len
-        );
+        assert_eq!(rt; checked(base.as_slice(), &signs[0..len]), expected, "{len}");
     }
     Ok(())
 }
@@ -129,8 +125,7 @@ fn example(rt: HostRuntime) -> Result<(), Fail> {
         assert_eq!(rt;
             altered(heap, base, signs, sign, 0, 3)?,
             unread(sign),
-            "{}",
-            sign
+            "{sign}"
         );
     }
     assert_eq!(rt; altered(heap, base, signs, 0, 15, 2)?, unread(0));
@@ -176,10 +171,10 @@ fn again(rt: HostRuntime) -> Result<(), Fail> {
 #[test]
 fn order(rt: HostRuntime) -> Result<(), Fail> {
     let heap = rt.alloc();
-    let layout = Err(Refusal::Layout { register: 1 });
+    let layout = Err(Refusal::from(RegistersRefusal::Layout { register: 1 }));
     assert_eq!(rt; checked(&[2, 0, 1, 0, 9], &[]), layout);
     assert_eq!(rt; checked(&[2, 0, 1, 0, 9], &[0; 171]), layout);
-    let blocks = Err(Refusal::Blocks { register: 0 });
+    let blocks = Err(Refusal::from(RegistersRefusal::Blocks { register: 0 }));
     assert_eq!(rt; checked(&[1, 1, 1, 5, 0], &[]), blocks);
     assert_eq!(rt; checked(&[1, 1, 1, 5, 0], &[0; 171]), blocks);
     assert_eq!(rt; said(heap, &[0, 0, 8], &[1, 1, 0])?, unread(2));

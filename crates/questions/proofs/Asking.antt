@@ -3,17 +3,16 @@ use Rattle.std.proofs.Common.{◌≡◌, ℕ, suc, ◌+◌, ◌*◌, ◌<◌, �
 use Rattle.std.proofs.lemmas.List.FromFn.{get_or-map-range_with_len, length-map-range_with_len}
 use Rattle.std.proofs.lemmas.List.{drop_more}
 use Rattle.std.proofs.lemmas.Bool.{and_parts, cond-true, lt-ltb, ltb-true}
-use Rattle.registers.specs.Refusals.{answered}
 use Rattle.questions.specs.declared.kinds.Test.{Test}
 use Rattle.questions.specs.declared.outline.Outline.{Outline}
 use Rattle.questions.specs.declared.signs.Signs.{Signs}
 use Rattle.questions.specs.Questions.{Further, Question, and_at, ask, columns_in, further_of, no_more, questions_in, simple, tests_of}
 use Rattle.questions.specs.Meaning.{Whole}
 use Rattle.questions.specs.Reading.{count_of, end_of, ends_of, outline_of, question_of}
-use Rattle.questions.specs.Refusals.{signs_refusal}
+use Rattle.questions.specs.Refusals.{answered, signs_refusal}
 use Rattle.questions.specs.Signs.{Follow, Reading, Stands, asked, column_fits, columns_at, number_at, read, reads, register_at, test_at, test_fits, tests_at}
 use Rattle.questions.specs.Views.{question_at, signs_in, width_of}
-use Rattle.registers.proofs.Checking.{answered_ok}
+use Rattle.questions.proofs.Columns.{answered_ok}
 use Rattle.questions.proofs.Fitting.{Fit, each_at, fit_from}
 use Rattle.questions.proofs.Meaning.{accepted_read, read_sound}
 use Rattle.questions.proofs.Trees.{follow_bounds, stands_bounds, stands_inside, stands_read}

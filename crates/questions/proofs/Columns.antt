@@ -1,18 +1,21 @@
 -- The columns of registers that are not refused, as a survey tells them; and the refusal put together.
-use Rattle.std.proofs.Common.{◌≡◌, ℕ, ◌≤◌, List, map, length, get_or, take, Some, None, Ok, Err, Option, Result, ap, ◌∙◌, arith}
+use Rattle.std.proofs.Common.{◌≡◌, ℕ, ◌≤◌, List, map, length, get_or, take, Some, None, Ok, Err, Option, Result, refl, ap, ◌∙◌, arith}
 use Rattle.std.specs.List.{range_with_len}
 use Rattle.std.specs.Result.{result_and}
 use Rattle.std.proofs.lemmas.List.FromFn.{fill_by_all, get_or-map-range_with_len, length-map-range_with_len, take-map-range_with_len}
 use Rattle.registers.specs.declared.layout.Directory.{Directory}
-use Rattle.registers.specs.declared.refusals.Refusal.{Refusal}
+use Rattle.registers.specs.declared.refusals.Refusal.{Refusal as RegistersRefusal}
 use Rattle.registers.specs.Layout.{columns_at, columns_of, count_of, register_place}
-use Rattle.registers.specs.Refusals.{answered, or_else, refusal}
+use Rattle.registers.specs.Refusals.{answered as registers_answered, or_else, refusal}
 use Rattle.registers.specs.Survey.{directory_of, no_section}
 use Rattle.registers.proofs.Checking.{enough_all, surveyed_turn}
 use Rattle.registers.proofs.Finding.{sound_parts}
 use Rattle.registers.proofs.Limits.{length_base, limits_hold}
 use Rattle.registers.proofs.Placing.{enough_count}
+use Rattle.questions.specs.declared.refusals.Refusal.{Refusal}
+use Rattle.questions.specs.declared.refusals.Refusal.TheVariants.{Registers}
 use Rattle.questions.specs.Reading.{widths_of}
+use Rattle.questions.specs.Refusals.{answered, of_registers}
 
 pub length_widths : (directory : Directory) → length (widths_of directory) ≡ 8
 unfolding widths_of
@@ -35,7 +38,7 @@ module _ (xs : List ℕ) (directory : Directory) (sound : refusal xs ≡ None) (
       ∙ ap (λ (n : ℕ). map (λ t. columns_at xs (register_place xs t)) (range_with_len 0 n)) count_is
 
 -- the refusal of registers comes first
-pub told_first : {A B : Type 0} (o p : Option Refusal) (e : Refusal) (x : A) (y : B) → Err e ≡ answered o x → Err e ≡ answered (or_else o p) y
+pub told_first : {A B : Type 0} (o : Option RegistersRefusal) (p : Option Refusal) (e : RegistersRefusal) (x : A) (y : B) → Err e ≡ registers_answered o x → Err (Registers e) ≡ answered (or_else (of_registers o) p) y
 told_first None p e x y h = let z : ◌≡◌ {A = ℕ} 0 1 = cc in absurd (omega arith)
 told_first (Some r) p e x y h = cc
 
@@ -44,3 +47,8 @@ pub told_second : {A B : Type 0} (o p : Option Refusal) (r : Result A Refusal) (
 told_second {A = A} None None r x y h e = ap (λ (a : Result A Refusal). result_and a (Ok y)) e
 told_second {A = A} None (Some f) r x y h e = ap (λ (a : Result A Refusal). result_and a (Ok y)) e
 told_second (Some f) p r x y h e = let z : ◌≡◌ {A = ℕ} 0 1 = cc in absurd (omega arith)
+
+-- an answer is of signs that are not refused
+pub answered_ok : {A : Type 0} (o : Option Refusal) (x y : A) → Ok x ≡ answered o y → (o ≡ None) × (x ≡ y)
+answered_ok None x y h = (refl, cc)
+answered_ok (Some e) x y h = let z : ◌≡◌ {A = ℕ} 0 1 = cc in absurd (omega arith)

@@ -2,12 +2,11 @@
 use Rattle.std.proofs.Common.{◌≡◌, ℕ, ◌*◌, Bool, true, false, cond, not, ◌&&◌, ◌||◌, eqb, leb, List, [], ◌∷◌, ◌++◌, length, is_some, Some, None, Option, Result, sym, refl, ap, ◌∙◌, subst, ap₂, inl, inr, ⊎_elim, arith}
 use Rattle.std.proofs.lemmas.Bool.{cases_lt, cond-false, cond-true, eq-eqb, eqb-true, le-leb, leb-true, lt-leb}
 use Rattle.std.proofs.lemmas.Bool.Decides.{nat_tests}
-use Rattle.registers.specs.declared.refusals.Refusal.{Refusal}
-use Rattle.registers.specs.declared.refusals.Refusal.TheVariants.{Twice}
-use Rattle.registers.specs.Refusals.{answered, refused_at}
+use Rattle.questions.specs.declared.refusals.Refusal.{Refusal}
+use Rattle.questions.specs.declared.refusals.Refusal.TheVariants.{Twice}
 use Rattle.questions.specs.Meaning.{Fault, Means, ReadExactly, SimpleExactly, Whole, refusal_in}
 use Rattle.questions.specs.Questions.{Question, distinct, first_again, goes_to, has, simple}
-use Rattle.questions.specs.Refusals.{refused, signs_refusal}
+use Rattle.questions.specs.Refusals.{answered, refused_at, refused, signs_refusal}
 use Rattle.questions.specs.Signs.{Reading, Short, Stands, asked, most_signs, read, reads, sign_len, stuck, then}
 use Rattle.questions.proofs.Deep.{cond_read, then_read, then_stuck}
 use Rattle.questions.proofs.Faults.{deep_stops}

@@ -3,8 +3,8 @@ use Rattle.std.proofs.Common.{◌≡◌, ℕ, zero, suc, ◌+◌, ◌-◌, ◌<�
 use Rattle.std.proofs.lemmas.List.FromFn.{length-map-range_with_len}
 use Rattle.std.proofs.lemmas.List.{get_or-set_other, get_or-set_same}
 use Rattle.std.proofs.lemmas.Bool.{cases_eq, cases_lt, cond-false, cond-true}
-use Rattle.registers.specs.declared.refusals.Refusal.{Refusal}
-use Rattle.registers.specs.declared.refusals.Refusal.TheVariants.{Signs}
+use Rattle.questions.specs.declared.refusals.Refusal.{Refusal}
+use Rattle.questions.specs.declared.refusals.Refusal.TheVariants.{Signs}
 use Rattle.questions.specs.Questions.{Question, and_at, ask}
 use Rattle.questions.specs.Reading.{Noted, end_of, next, outcome, passed}
 use Rattle.questions.specs.Signs.{columns_at, number_at, read, Reading, reads, reads_further, reads_sign, register_at, Short, sign_fits, stuck, tests_at, then}

@@ -4,12 +4,11 @@ use Rattle.std.specs.List.{range_with_len}
 use Rattle.std.proofs.lemmas.List.FromFn.{fill_by_all}
 use Rattle.std.proofs.lemmas.List.{get_or-replicate}
 use Rattle.std.proofs.lemmas.Bool.{cases_lt, cond-false, cond-true, le-leb, le-ltb, lt-leb, lt-ltb, ne_eqb}
-use Rattle.registers.specs.declared.refusals.Refusal.{Refusal}
-use Rattle.registers.specs.declared.refusals.Refusal.TheVariants.{Signs, Twice}
-use Rattle.registers.specs.Refusals.{answered, refused_at}
+use Rattle.questions.specs.declared.refusals.Refusal.{Refusal}
+use Rattle.questions.specs.declared.refusals.Refusal.TheVariants.{Signs, Twice}
 use Rattle.questions.specs.Questions.{Question, first_again, goes_to}
 use Rattle.questions.specs.Reading.{Noted, count_of, end_of, ends_of, outcome, outline_of}
-use Rattle.questions.specs.Refusals.{refused, signs_refusal}
+use Rattle.questions.specs.Refusals.{answered, refused_at, refused, signs_refusal}
 use Rattle.questions.specs.Signs.{asked, read, Reading, reads, register_at, Short, stuck, then}
 use Rattle.questions.proofs.Meaning.{read_complete}
 use Rattle.questions.proofs.Passing.{outcome_ok}

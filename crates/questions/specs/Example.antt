@@ -1,7 +1,8 @@
 -- Two questions about sluices, polders and boards: the definitions tried on an example. Assumes nothing: these are
 -- definitions.
 use Rattle.std.specs.Prelude.{◌≡◌, ℕ, true, List, [], ◌∷◌, ◌++◌, take, Some, None, slice_set}
-use Rattle.registers.specs.declared.refusals.Refusal.TheVariants.{Blocks, Signs, Twice}
+use Rattle.registers.specs.declared.refusals.Refusal.TheVariants.{Blocks}
+use Rattle.questions.specs.declared.refusals.Refusal.TheVariants.{Registers, Signs, Twice}
 use Rattle.registers.specs.Example.{example}
 use Rattle.questions.specs.declared.kinds.Kind.TheVariants.{Is, AtLeast, AtMost}
 use Rattle.questions.specs.Questions.{Question, ask, and_at, goes_to, no_more, simple}
@@ -56,5 +57,5 @@ pub record DamageRefused : Type 0 where
   pub five_further : refusal_of example (slice_set drained_signs 33 5) ≡ Some (Signs 1)
   pub twice : refusal_of example (slice_set drained_signs 38 0) ≡ Some (Twice 0)
   pub unread_before_twice : refusal_of example (slice_set (slice_set drained_signs 19 0) 41 4) ≡ Some (Signs 2)
-  pub registers_first : refusal_of (slice_set example 17 1) [] ≡ Some (Blocks 0)
+  pub registers_first : refusal_of (slice_set example 17 1) [] ≡ Some (Registers (Blocks 0))
   pub junk_unused : refusal_of example (slice_set (slice_set wide_signs 5 99) 15 99) ≡ None

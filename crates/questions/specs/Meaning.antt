@@ -1,7 +1,7 @@
 -- What the answers mean, in what signs stand for alone. Assumes nothing: these are definitions.
 use Rattle.std.specs.Prelude.{◌≡◌, ℕ, ◌*◌, ◌<◌, true, false, not, ◌⊎◌, List, [], length, is_some, Some, None, Ok, Err, Option, Result}
-use Rattle.registers.specs.declared.refusals.Refusal.{Refusal}
-use Rattle.registers.specs.declared.refusals.Refusal.TheVariants.{Layout, Blocks, Signs, Twice}
+use Rattle.questions.specs.declared.refusals.Refusal.{Refusal}
+use Rattle.questions.specs.declared.refusals.Refusal.TheVariants.{Registers, Signs, Twice}
 use Rattle.questions.specs.Questions.{Question, first_again, goes_to, simple}
 use Rattle.questions.specs.Signs.{Short, Stands, asked, most_signs, read, sign_fits, sign_len}
 
@@ -26,8 +26,7 @@ pub record Unread (widths xs : List ℕ) (s : ℕ) : Type 0 where
 -- sign that cannot be read; 4: they stand for one that goes to a register twice, and that is the first to come again
 abbrev pub Means : (widths xs : List ℕ) → Option Refusal → Type 0
 Means widths xs None = (q : Question) × (e : ℕ) × Whole widths xs q e × (simple q ≡ true)
-Means widths xs (Some (Layout t)) = ⊥
-Means widths xs (Some (Blocks t)) = ⊥
+Means widths xs (Some (Registers r)) = ⊥
 Means widths xs (Some (Signs s)) = Unread widths xs s
 Means widths xs (Some (Twice t)) = (q : Question) × (e : ℕ) × Whole widths xs q e × (first_again [] (goes_to q) ≡ Some t)
 

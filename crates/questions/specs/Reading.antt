@@ -3,8 +3,8 @@
 use Rattle.std.specs.Prelude.{◌≡◌, ℕ, zero, suc, ◌<◌, ◌≤◌, cond, ◌⊎◌, List, [], map, Ok, Err, Result, nat_lt, slice_index, slice_index_or}
 use Rattle.std.specs.List.{range_with_len}
 use Rattle.registers.specs.declared.layout.Directory.{Directory}
-use Rattle.registers.specs.declared.refusals.Refusal.{Refusal}
-use Rattle.registers.specs.declared.refusals.Refusal.TheVariants.{Signs}
+use Rattle.questions.specs.declared.refusals.Refusal.{Refusal}
+use Rattle.questions.specs.declared.refusals.Refusal.TheVariants.{Signs}
 use Rattle.registers.specs.Survey.{no_section}
 use Rattle.questions.specs.declared.outline.Outline.{Outline}
 use Rattle.questions.specs.Questions.{Question, ask, no_more}

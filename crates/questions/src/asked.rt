@@ -1,9 +1,8 @@
 // What stands at each sign of a question: its register, its tests, its further questions.
 ghost use Rattle.std.specs.Prelude.{◌≡◌, ◌<◌, ◌≤◌, [], length, Ok, slice_index, slice_index_or};
-ghost use Rattle.registers.specs.Refusals.{answered};
 ghost use Rattle.questions.specs.Questions.{ask, columns_in, further_of, no_more, questions_in, register_of, tests_of};
 ghost use Rattle.questions.specs.Reading.{outline_of};
-ghost use Rattle.questions.specs.Refusals.{signs_refusal};
+ghost use Rattle.questions.specs.Refusals.{answered, signs_refusal};
 ghost use Rattle.questions.specs.Tests.{all_pass};
 ghost use Rattle.questions.specs.Views.{question_at, signs_in, width_of};
 

@@ -1,15 +1,15 @@
 // Checking registers and the signs of a question together.
 ghost use Rattle.std.specs.Prelude.{◌≡◌, None};
 ghost use Rattle.registers.specs.Layout.{columns_of};
-ghost use Rattle.registers.specs.Refusals.{answered, refusal};
+ghost use Rattle.registers.specs.Refusals.{refusal};
 ghost use Rattle.questions.specs.Meaning.{Means, refusal_in};
 ghost use Rattle.questions.specs.Reading.{widths_of};
-ghost use Rattle.questions.specs.Refusals.{refusal_of};
+ghost use Rattle.questions.specs.Refusals.{answered, refusal_of};
 
 use crate::reading::read;
+use crate::refusals::Refusal;
 use registers::checked;
 use registers::layout::{Directory, MAX_REGISTERS};
-use registers::refusals::Refusal;
 
 // How many columns each register has, in room for eight.
 pub fn widths(directory: &Directory) -> [usize; MAX_REGISTERS]
@@ -28,10 +28,12 @@ pub fn check(base: &[u64], signs: &[u64]) -> Result<(), Refusal>
     ensures means { refusal base.now ≡ None → Means (columns_of base.now) signs.now (refusal_in result) }
 {
     let found = checked(base);
-    let Ok(directory) = found else {
-        return found.and(Ok(()));
-    };
-    let widths = widths(&directory);
-    let count = directory.count;
-    read(&widths[0..count], signs).and(Ok(()))
+    match found {
+        Ok(directory) => {
+            let widths = widths(&directory);
+            let count = directory.count;
+            read(&widths[0..count], signs).and(Ok(()))
+        }
+        Err(refusal) => Err(Refusal::Registers { refusal }),
+    }
 }

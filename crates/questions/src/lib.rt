@@ -10,6 +10,7 @@ pub mod kinds;
 pub mod layout;
 pub mod outline;
 pub mod reading;
+pub mod refusals;
 pub mod signs;
 pub mod theorems;
 

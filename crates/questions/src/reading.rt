@@ -2,16 +2,15 @@
 // other. Each sign is read once.
 ghost use Rattle.std.specs.Prelude.{◌≡◌, ◌≤◌, [], map, length, IfOk};
 ghost use Rattle.std.specs.List.{range_with_len};
-ghost use Rattle.registers.specs.Refusals.{answered};
 ghost use Rattle.questions.specs.Meaning.{Means, refusal_in};
 ghost use Rattle.questions.specs.Questions.{first_again, has};
 ghost use Rattle.questions.specs.Reading.{Noted, outcome, outline_of, passed};
-ghost use Rattle.questions.specs.Refusals.{signs_refusal};
+ghost use Rattle.questions.specs.Refusals.{answered, signs_refusal};
 ghost use Rattle.questions.specs.Signs.{Short, There, most_signs, reads, register_at};
 
 use crate::layout::{FURTHER, MAX_SIGNS, REGISTER, SIGN_LEN, number, sign_fits};
 use crate::outline::{NONE, Outline};
-use registers::refusals::Refusal;
+use crate::refusals::Refusal;
 
 // Reads the question that begins at a sign, notes where it and the questions in it end, and answers the sign behind it;
 // or the refusal of the first sign that cannot be read.

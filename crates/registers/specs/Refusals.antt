@@ -3,7 +3,7 @@
 use Rattle.std.specs.Prelude.{ℕ, zero, suc, ◌+◌, Bool, true, cond, ◌&&◌, List, [], ◌∷◌, length, drop, Some, None, Ok, Err, Option, Result, nat_le, nat_lt, slice_index}
 use Rattle.std.specs.List.{between}
 use Rattle.registers.specs.declared.refusals.Refusal.{Refusal}
-use Rattle.registers.specs.declared.refusals.Refusal.TheVariants.{Layout, Blocks, Signs, Twice}
+use Rattle.registers.specs.declared.refusals.Refusal.TheVariants.{Layout, Blocks}
 use Rattle.registers.specs.Base.{proper_register}
 use Rattle.registers.specs.Layout.{count_of, blocks_at, columns_at, block_end, block_place, register_at, register_end, register_place}
 
@@ -11,15 +11,11 @@ use Rattle.registers.specs.Layout.{count_of, blocks_at, columns_at, block_end, b
 abbrev pub number : Refusal → ℕ
 number (Layout t) = 1
 number (Blocks t) = 2
-number (Signs s) = 3
-number (Twice t) = 4
 
--- its place: the register or the sign; 8 where it is about none of them, or about their count
+-- its place: the register, or 8 where it is about none
 abbrev pub place : Refusal → ℕ
 place (Layout t) = t
 place (Blocks t) = t
-place (Signs s) = s
-place (Twice t) = t
 
 -- an answer, or the refusal in its place
 abbrev pub answered : {A : Type 0} → Option Refusal → A → Result A Refusal

@@ -9,11 +9,6 @@ pub enum Refusal {
     Layout { register: usize },
     // A key has two blocks, or a block has no row. Place: the register.
     Blocks { register: usize },
-    // The signs of a question stand for none. Place: the first sign that cannot be read, or 8 where there are more
-    // than 8 signs.
-    Signs { sign: usize },
-    // A question goes to a register twice. Place: the register.
-    Twice { register: usize },
 }
 
 impl Refusal {
@@ -24,8 +19,6 @@ impl Refusal {
         match self {
             Refusal::Layout { .. } => 1,
             Refusal::Blocks { .. } => 2,
-            Refusal::Signs { .. } => 3,
-            Refusal::Twice { .. } => 4,
         }
     }
 
@@ -36,8 +29,6 @@ impl Refusal {
         match self {
             Refusal::Layout { register } => register as u64,
             Refusal::Blocks { register } => register as u64,
-            Refusal::Signs { sign } => sign as u64,
-            Refusal::Twice { register } => register as u64,
         }
     }
 }

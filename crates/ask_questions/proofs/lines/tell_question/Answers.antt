@@ -1,7 +1,6 @@
 use Rattle.std.proofs.Common.{◌≡◌, ℕ, ◌-◌, ◌*◌, List, get_or, take, sym, ap, ◌∙◌, arith}
-use Rattle.registers.specs.Refusals.{answered}
 use Rattle.questions.specs.Reading.{outline_of}
-use Rattle.questions.specs.Refusals.{signs_refusal}
+use Rattle.questions.specs.Refusals.{answered, signs_refusal}
 use Rattle.ask_questions.specs.Parts.{part_signs}
 use Rattle.ask_questions.proofs.Cutting.{part_ok}
 use Rattle.ask_questions.proofs.lines.tell_question.Goals as goal

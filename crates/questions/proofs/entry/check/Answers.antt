@@ -1,20 +1,19 @@
 use Rattle.std.proofs.Common.{◌≡◌, ℕ, ◌-◌, List, length, take, None, refl, ap, ◌∙◌, arith}
 use Rattle.registers.specs.Layout.{columns_of}
-use Rattle.registers.specs.Refusals.{answered}
 use Rattle.registers.proofs.Checking.{answered_err, answered_ok}
 use Rattle.questions.specs.Reading.{outline_of}
-use Rattle.questions.specs.Refusals.{refusal_of, signs_refusal}
+use Rattle.questions.specs.Refusals.{answered, of_registers, refusal_of, signs_refusal}
 use Rattle.questions.proofs.Columns.{count_few, length_widths, told_first, told_second, widths_are}
 use Rattle.questions.proofs.Meaning.{means}
 use Rattle.questions.proofs.entry.check.Goals as goal
 
-pub returns-in_default : goal.returns-in_default
+pub returns-in-Err : goal.returns-in-Err
 unfolding refusal_of
-returns-in_default c =
+returns-in-Err c =
     record {
-      value = c.and.ensures ∙ simp c.in_default.is (told_first _ _ _ _ _ c.in_default.ensures);
+      value = told_first _ _ _ _ _ c.in-Err.ensures;
       means = λ none.
-          let some = answered_err _ _ _ c.in_default.ensures in
+          let some = answered_err _ _ _ c.in-Err.ensures in
           let z : ◌≡◌ {A = ℕ} 0 1 = cc in
           absurd (omega arith);
     }
@@ -25,9 +24,9 @@ slice_bounds-read-end c =
     let few = count_few c.args.base.now c.in-Ok.directory sound.0 sound.1 in
     omega (arith, few, ap length c.widths-widths.ensures, length_widths c.in-Ok.directory)
 
-pub returns : goal.returns
+pub returns-in-Ok : goal.returns-in-Ok
 unfolding refusal_of
-returns c =
+returns-in-Ok c =
     let sound = answered_ok _ _ _ c.in-Ok.ensures in
     let all : c.in-Ok.directory.count - 0 ≡ c.in-Ok.directory.count = omega arith in
     let columns : take (c.in-Ok.directory.count - 0) c.widths-widths.result ≡ columns_of c.args.base.now =
@@ -38,6 +37,6 @@ returns c =
     c.read.ensures.value
     ∙ ap (λ (ws : List ℕ). answered (signs_refusal ws c.args.signs.now) (outline_of ws c.args.signs.now)) columns in
     record {
-      value = c.and-2.ensures ∙ told_second _ _ _ _ _ sound.0 value;
-      means = λ none. means (columns_of c.args.base.now) c.args.signs.now _ _ (c.and-2.ensures ∙ told_second None _ _ _ _ refl value);
+      value = c.and.ensures ∙ told_second _ _ _ _ _ (ap of_registers sound.0) value;
+      means = λ none. means (columns_of c.args.base.now) c.args.signs.now _ _ (c.and.ensures ∙ told_second None _ _ _ _ refl value);
     }

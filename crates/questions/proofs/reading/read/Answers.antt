@@ -1,7 +1,6 @@
 use Rattle.std.proofs.Common.{◌≡◌, Ok, ap, ◌∙◌, arith}
-use Rattle.registers.specs.Refusals.{answered}
 use Rattle.questions.specs.Reading.{outline_of}
-use Rattle.questions.specs.Refusals.{signs_refusal}
+use Rattle.questions.specs.Refusals.{answered, signs_refusal}
 use Rattle.questions.proofs.Meaning.{means}
 use Rattle.questions.proofs.Passing.{outcome_bounds}
 use Rattle.questions.proofs.Telling.{outlined, told_left, told_long, told_simple, told_twice, told_unread}

@@ -1,0 +1,49 @@
+// Why registers, or the signs of a question over them, are turned away.
+ghost use Rattle.std.specs.Prelude.{◌≡◌};
+ghost use Rattle.questions.specs.declared.refusals.Refusal.TheVariants.{Registers};
+ghost use Rattle.questions.specs.Refusals.{number, place};
+
+use registers::refusals::Refusal as RegistersRefusal;
+
+#[derive(Clone, Copy, PartialEq, Eq, Debug)]
+pub enum Refusal {
+    // The registers are refused.
+    Registers { refusal: RegistersRefusal },
+    // The signs of a question stand for none. Place: the first sign that cannot be read, or 8 where there are more
+    // than 8 signs.
+    Signs { sign: usize },
+    // A question goes to a register twice. Place: the register.
+    Twice { register: usize },
+}
+
+impl Refusal {
+    // The number by which the refusal is told.
+    pub fn number(self) -> u64
+        ensures { result ≡ number self }
+    {
+        match self {
+            Refusal::Registers { refusal } => refusal.number(),
+            Refusal::Signs { .. } => 3,
+            Refusal::Twice { .. } => 4,
+        }
+    }
+
+    // Where it is so.
+    pub fn place(self) -> u64
+        ensures { result ≡ place self }
+    {
+        match self {
+            Refusal::Registers { refusal } => refusal.place(),
+            Refusal::Signs { sign } => sign as u64,
+            Refusal::Twice { register } => register as u64,
+        }
+    }
+}
+
+impl From<RegistersRefusal> for Refusal {
+    ghost from_gives = { λ refusal r. r ≡ Registers refusal };
+
+    fn from(refusal: RegistersRefusal) -> Refusal {
+        Refusal::Registers { refusal }
+    }
+}

@@ -1,12 +1,9 @@
 """What ./ask_questions must print of bytes, by the plain reading of them, and whether it does."""
-import pathlib
 import subprocess
 import sys
 
 sys.dont_write_bytecode = True
-from question_reading import Refused, read_all
-
-sys.path.append(str(pathlib.Path(__file__).resolve().parent.parent))
+from question_reading import Refused, read_all  # and the folder of the next one to the path
 from random_registers import answer
 
 

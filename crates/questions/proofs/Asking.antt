@@ -12,10 +12,10 @@ use Rattle.questions.specs.Reading.{count_of, end_of, ends_of, outline_of, quest
 use Rattle.questions.specs.Refusals.{answered, signs_refusal}
 use Rattle.questions.specs.Signs.{Follow, Reading, Stands, asked, column_fits, columns_at, number_at, read, reads, register_at, test_at, test_fits, tests_at}
 use Rattle.questions.specs.Views.{question_at, signs_in, width_of}
-use Rattle.questions.proofs.Columns.{answered_ok}
 use Rattle.questions.proofs.Fitting.{Fit, each_at, fit_from}
 use Rattle.questions.proofs.Meaning.{accepted_read, read_sound}
 use Rattle.questions.proofs.Trees.{follow_bounds, stands_bounds, stands_inside, stands_read}
+use Rattle.questions.proofs.Telling.{answered_ok}
 
 -- a question that is not refused is that of all signs, and goes to no register twice
 pub whole : (widths xs : List ℕ) → is_some (signs_refusal widths xs) ≡ false → (q : Question) × Whole widths xs q (count_of widths xs) × (simple q ≡ true)

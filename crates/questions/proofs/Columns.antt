@@ -1,5 +1,5 @@
 -- The columns of registers that are not refused, as a survey tells them; and the refusal put together.
-use Rattle.std.proofs.Common.{◌≡◌, ℕ, ◌≤◌, List, map, length, get_or, take, Some, None, Ok, Err, Option, Result, refl, ap, ◌∙◌, arith}
+use Rattle.std.proofs.Common.{◌≡◌, ℕ, ◌≤◌, List, map, length, get_or, take, Some, None, Ok, Err, Option, Result, ap, ◌∙◌, arith}
 use Rattle.std.specs.List.{range_with_len}
 use Rattle.std.specs.Result.{result_and}
 use Rattle.std.proofs.lemmas.List.FromFn.{fill_by_all, get_or-map-range_with_len, length-map-range_with_len, take-map-range_with_len}
@@ -47,8 +47,3 @@ pub told_second : {A B : Type 0} (o p : Option Refusal) (r : Result A Refusal) (
 told_second {A = A} None None r x y h e = ap (λ (a : Result A Refusal). result_and a (Ok y)) e
 told_second {A = A} None (Some f) r x y h e = ap (λ (a : Result A Refusal). result_and a (Ok y)) e
 told_second (Some f) p r x y h e = let z : ◌≡◌ {A = ℕ} 0 1 = cc in absurd (omega arith)
-
--- an answer is of signs that are not refused
-pub answered_ok : {A : Type 0} (o : Option Refusal) (x y : A) → Ok x ≡ answered o y → (o ≡ None) × (x ≡ y)
-answered_ok None x y h = (refl, cc)
-answered_ok (Some e) x y h = let z : ◌≡◌ {A = ℕ} 0 1 = cc in absurd (omega arith)

@@ -14,6 +14,11 @@ use Rattle.questions.proofs.Meaning.{read_complete}
 use Rattle.questions.proofs.Passing.{outcome_ok}
 use Rattle.questions.proofs.Trees.{read_stands, stands_goes}
 
+-- an answer is of signs that are not refused
+pub answered_ok : {A : Type 0} (o : Option Refusal) (x y : A) → Ok x ≡ answered o y → (o ≡ None) × (x ≡ y)
+answered_ok None x y h = (refl, cc)
+answered_ok (Some e) x y h = let z : ◌≡◌ {A = ℕ} 0 1 = cc in absurd (omega arith)
+
 outcome_err : {A : Type 0} (r : Reading A) (x : Refusal) → Err x ≡ outcome r → (s : ℕ) × (r ≡ stuck s) × (Signs s ≡ x)
 outcome_err (read a m) x h = let z : ◌≡◌ {A = ℕ} 0 1 = cc in absurd (omega arith)
 outcome_err (stuck s) x h = (s, refl, cc)

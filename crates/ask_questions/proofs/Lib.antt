@@ -1,3 +1,3 @@
 -- Lemmas by topic.
-pub mod Summing
 pub mod Cutting
+pub mod Saying

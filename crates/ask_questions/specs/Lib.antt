@@ -1,3 +1,3 @@
--- What the program tells of registers, and how questions stand in its input.
-pub mod Summary
+-- How questions stand in the input of the program.
 pub mod Parts
+pub mod Words

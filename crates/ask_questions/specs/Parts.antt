@@ -2,14 +2,18 @@
 --
 -- It is one byte for how many signs it has, the signs, 19 numbers each, and one number for the column to be summed. A
 -- number is four bytes, low byte first. The byte says where the next question begins, whatever else is wrong.
-use Rattle.std.specs.Prelude.{ℕ, ◌+◌, ◌*◌, cond, List, length, take, drop, Some, None, Ok, Err, Option, Result, nat_lt, slice_index}
-use Rattle.input_bytes.specs.Numbers.{numbers_of}
+use Rattle.std.specs.Prelude.{◌≡◌, ℕ, ◌+◌, ◌*◌, cond, List, [], ◌∷◌, length, take, drop, Some, Option, MatchOption, nat_lt, slice_index}
+use Rattle.input.specs.Numbers.{numbers_of}
+use Rattle.ask_questions.specs.declared.parts.Part.{Part}
 use Rattle.questions.specs.declared.refusals.Refusal.{Refusal}
-use Rattle.questions.specs.declared.refusals.Refusal.TheVariants.{Registers, Signs, Twice}
-use Rattle.questions.specs.declared.outline.Outline.{Outline}
+use Rattle.questions.specs.declared.refusals.Refusal.TheVariants.{Signs}
 use Rattle.questions.specs.Questions.{Question}
 use Rattle.questions.specs.Refusals.{signs_refusal}
 use Rattle.questions.specs.Signs.{Reading, asked, most_signs, read, sign_len, stuck}
+
+-- all bytes from a question on
+abbrev pub bytes_of : Part → List ℕ
+bytes_of part = part.signs ∷ part.rest.now
 
 -- how many signs the question says that it has
 abbrev pub said : List ℕ → ℕ
@@ -23,13 +27,6 @@ signs_of n bytes = take (n * sign_len) (numbers_of bytes)
 abbrev pub stops : Reading Question → ℕ
 stops (stuck s) = s
 stops (read q e) = e
-
--- the same of what reading answers, where so many signs are there
-abbrev pub stopped : Result Outline Refusal → (signs : ℕ) → ℕ
-stopped (Ok outline) signs = signs
-stopped (Err (Registers r)) signs = signs
-stopped (Err (Signs s)) signs = s
-stopped (Err (Twice t)) signs = signs
 
 -- a question of so many signs: what is not all there, up to the number of the column, is refused as one that cannot be
 -- read
@@ -47,14 +44,14 @@ unfoldable pub part_refusal : (widths bytes : List ℕ) → Option Refusal
 part_refusal widths bytes =
     cond (nat_lt most_signs (said bytes)) (Some (Signs most_signs)) (cut_refusal widths (said bytes) (drop 1 bytes))
 
--- the first question begins at a place, if bytes are left there
-abbrev pub first_place : (bytes : List ℕ) (from : ℕ) → Option ℕ
-first_place bytes from = cond (nat_lt from (length bytes)) (Some from) None
-
 -- how many bytes a question of so many signs takes: the one in front, those of the column, and those of the signs
 abbrev pub size_of : (signs : ℕ) → ℕ
 size_of signs = 1 + 4 + signs * (sign_len * 4)
 
--- the next one begins behind the one that begins at a place
-abbrev pub next_place : (bytes : List ℕ) (at : ℕ) → Option ℕ
-next_place bytes at = first_place bytes (at + size_of (slice_index bytes at))
+-- going from question to question: where bytes are left, a question begins with the first of them, and the next one
+-- begins behind it
+abbrev pub Steps : (before : List ℕ) → Option Part → (after : List ℕ) → Type 0
+Steps before part after =
+    MatchOption part
+    (before ≡ [])
+    (λ p. (before ≡ bytes_of p) × (after ≡ drop (size_of p.signs) before))

@@ -1,85 +1,99 @@
-// Questions in the input: each is one byte for how many signs it has, the signs, and a number for the column to be summed.
-ghost use Rattle.std.specs.Prelude.{◌≡◌, ◌*◌, ◌<◌, ◌≤◌, length, take, OnOk};
-ghost use Rattle.questions.specs.Refusals.{answered};
-ghost use Rattle.questions.specs.Reading.{outline_of};
+// Questions in the input: each is one byte for how many signs it has, the signs, and a number for the column to be
+// summed.
+ghost use Rattle.std.specs.Prelude.{◌≡◌, ◌*◌, ◌<◌, ◌≤◌, length, drop, None, Some, MatchOption, MatchResult};
+ghost use Rattle.std.specs.Iterator.{at_most};
 ghost use Rattle.questions.specs.Signs.{most_signs, sign_len};
-ghost use Rattle.ask_questions.specs.Parts.{cut_refusal, first_place, next_place, part_refusal, part_signs, said, signs_of, stopped};
+ghost use Rattle.ask_questions.specs.Parts.{Steps, bytes_of, cut_refusal, part_refusal, part_signs, signs_of};
 
-use input_bytes::numbers::{WIDTH, decode};
+use input::numbers::WIDTH;
+use input_bytes::numbers::decode;
 use questions::layout::{MAX_SIGNS, SIGN_LEN};
-use questions::outline::Outline;
 use questions::reading;
 use questions::refusals::Refusal;
+use questions::signs::Signs;
 
 // Room for the numbers of all signs.
 pub(crate) const ROOM: usize = MAX_SIGNS * SIGN_LEN;
 
-// Where the first question begins, if bytes are left from a place on.
-pub(crate) fn first(bytes: &[u8], from: usize) -> Option<usize>
-    ensures { result ≡ first_place bytes.now from }
-{
-    if from < bytes.len() { Some(from) } else { None }
+// A question in the input: the byte that says how many signs it has, and all bytes behind that.
+#[derive(Clone, Copy)]
+pub(crate) struct Part<'a> {
+    signs: u8,
+    rest: &'a [u8],
 }
 
-// Where the next question begins, behind the one that begins at a place, if bytes are left there.
-pub(crate) fn next(bytes: &[u8], at: usize) -> Option<usize>
-    requires { at < length bytes.now }
-    ensures { result ≡ next_place bytes.now at }
-{
-    let size = 1 + WIDTH + bytes[at] as usize * (SIGN_LEN * WIDTH);
-    if size < bytes.len() - at {
-        Some(at + size)
-    } else {
-        None
+// The questions that stand one behind the other in the bytes that are left.
+#[derive(Drop)]
+pub(crate) struct Parts<'a> {
+    left: &'a [u8],
+}
+
+impl<'a> Parts<'a> {
+    // Those that stand from a place on.
+    pub(crate) fn from_place(bytes: &'a [u8], place: usize) -> Parts<'a>
+        ensures { result.left.now ≡ drop place bytes.now }
+    {
+        let left = bytes.get(place..).unwrap_or_default();
+        Parts { left }
     }
 }
 
-// The sign at which reading stopped: one that cannot be read, or the one behind all that are there.
-fn stopped(read: Result<Outline, Refusal>, signs: usize) -> usize
-    ensures { result ≡ stopped read signs }
-{
-    match read {
-        Err(Refusal::Signs { sign }) => sign,
-        _ => signs,
+impl<'a> Iterator for Parts<'a> {
+    type Item = Part<'a>;
+
+    ghost next_gives = { λ before part after. Steps before.left.now part after.left.now };
+
+    ghost remaining = { λ parts. at_most (length parts.left.now) };
+
+    fn next(&mut self) -> Option<Part<'a>> {
+        let (signs, rest) = self.left.split_first()?;
+        let size = 1 + WIDTH + usize::from(*signs) * (SIGN_LEN * WIDTH);
+        self.left = self.left.get(size..).unwrap_or_default();
+        Some(Part {
+            signs: *signs,
+            rest,
+        })
     }
 }
 
 // Reads a question of so many signs from the bytes behind its first, into room that is as long as its signs.
-fn read_signs(
-    widths: &[usize],
+fn read_signs<'a>(
+    widths: &'a [usize],
     bytes: &[u8],
     signs: usize,
-    numbers: &mut [u64],
-) -> Result<Outline, Refusal>
+    numbers: &'a mut [u64],
+) -> Result<Signs<'a>, Refusal>
     requires few { signs ≤ most_signs }
     requires room { length numbers.old ≡ signs * sign_len }
-    ensures value { result ≡ answered (cut_refusal widths.now signs bytes.now) (outline_of widths.now (signs_of signs bytes.now)) }
-    ensures signs { OnOk result (numbers.new ≡ signs_of signs bytes.now) }
+    ensures { MatchResult result (λ s. (cut_refusal widths.now signs bytes.now ≡ None) × (s.widths.now ≡ widths.now) × (s.numbers.now ≡ signs_of signs bytes.now)) (λ e. cut_refusal widths.now signs bytes.now ≡ Some e) }
 {
     let given = decode(bytes, numbers);
-    let read = reading::read(widths, &numbers[0..given]);
+    let read = reading::read(widths, &numbers[..given]);
     if bytes.len() / WIDTH > signs * SIGN_LEN {
         return read;
     }
-    let sign = stopped(read, given / SIGN_LEN);
+    // So many signs are all there.
+    let there = given / SIGN_LEN;
+    let sign = match read.err() {
+        Some(Refusal::Signs { sign }) => sign,
+        _ => there,
+    };
     Err(Refusal::Signs { sign })
 }
 
-// Reads the question that the bytes begin with; the numbers of its signs are then the first in the room.
-pub(crate) fn read_part(
-    widths: &[usize],
-    bytes: &[u8],
-    room: &mut [u64],
-) -> Result<Outline, Refusal>
-    requires some { 0 < length bytes.now }
-    requires room { length room.old ≡ most_signs * sign_len }
-    ensures value { result ≡ answered (part_refusal widths.now bytes.now) (outline_of widths.now (part_signs bytes.now)) }
-    ensures signs { OnOk result (take (said bytes.now * sign_len) room.new ≡ part_signs bytes.now) }
-{
-    let signs = bytes[0] as usize;
-    if signs > MAX_SIGNS {
-        return Err(Refusal::Signs { sign: MAX_SIGNS });
+impl Part<'_> {
+    // Reads the question, into room for the numbers of its signs.
+    pub(crate) fn read<'a>(
+        &self,
+        widths: &'a [usize],
+        room: &'a mut [u64; ROOM],
+    ) -> Result<Signs<'a>, Refusal>
+        ensures { MatchResult result (λ s. (part_refusal widths.now (bytes_of self.now) ≡ None) × (s.widths.now ≡ widths.now) × (s.numbers.now ≡ part_signs (bytes_of self.now))) (λ e. part_refusal widths.now (bytes_of self.now) ≡ Some e) }
+    {
+        let signs = usize::from(self.signs);
+        if signs > MAX_SIGNS {
+            return Err(Refusal::Signs { sign: MAX_SIGNS });
+        }
+        read_signs(widths, self.rest, signs, &mut room[..signs * SIGN_LEN])
     }
-    let len = signs * SIGN_LEN;
-    read_signs(widths, &bytes[1..], signs, &mut room[0..len])
 }

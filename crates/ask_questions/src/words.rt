@@ -1,75 +1,50 @@
 // A question said back in words.
-ghost use Rattle.std.specs.Prelude.{◌≡◌, ◌<◌, Ok};
-ghost use Rattle.questions.specs.Reading.{outline_of};
-ghost use Rattle.questions.specs.Refusals.{answered, signs_refusal};
-ghost use Rattle.questions.specs.Views.{signs_in};
+ghost use Rattle.std.specs.Prelude.{◌≡◌, ◌==◌, [], cond, codes, Some};
+ghost use Rattle.questions.specs.Views.{asked_at};
+ghost use Rattle.ask_questions.specs.Words.{question_words};
 
-use questions::kinds::{Kind, Test};
-use questions::outline::Outline;
-use questions::signs::Signs;
-use std::io::Write;
-use std::{fmt, io};
-
-// What a test asks of a column.
-#[derive(Drop)]
-struct TestWords {
-    test: Test,
-}
-
-impl fmt::Display for TestWords {
-    fn fmt<W: fmt::Write>(&self, f: &mut fmt::Formatter<W>) -> fmt::Result {
-        let column = self.test.column;
-        let number = self.test.number;
-        let kind = match self.test.kind {
-            Kind::Is => "is",
-            Kind::IsNot => "is not",
-            Kind::AtLeast => "at least",
-            Kind::AtMost => "at most",
-        };
-        write!(f, "column {column} {kind} {number}")
-    }
-}
+use questions::signs::Question;
+use std::fmt;
 
 // What stands between two parts of a question; nothing before the first.
-fn separator(parts: usize) -> &'static str {
+fn separator(parts: usize) -> &'static str
+    ensures { result.now ≡ cond (parts == 0) [] (codes ", ") }
+{
     if parts == 0 { "" } else { ", " }
 }
 
-// Says the question that begins at a sign: its register, its tests, and its further questions in brackets.
-fn say<W: Write>(out: &mut W, signs: &Signs, sign: usize) -> io::Result<()>
-    requires { sign < signs_in signs.now }
-{
-    let register = signs.register(sign);
-    write!(out, "register {register}: ")?;
-    let tests = signs.tests(sign);
-    let further = signs.further(sign);
-    if tests == 0 && further == 0 {
-        return write!(out, "any row");
-    }
-    for i in 0..tests {
-        let test = signs.test(sign, i);
-        write!(out, "{}{}", separator(i), TestWords { test })?;
-    }
-    for i in 0..further {
-        let column = signs.column(sign, i);
-        let between = separator(tests.max(i));
-        write!(out, "{between}column {column} is a key of (")?;
-        say(out, signs, signs.begin(sign, i))?;
-        write!(out, ")")?;
-    }
-    Ok(())
+// A question to be said. It is a type apart, since the words are those of this program.
+#[derive(Clone, Copy)]
+pub(crate) struct Words<'a> {
+    pub(crate) question: Question<'a>,
 }
 
-// Says a question that was read, on a line of its own. The lifetimes are one, as those of the parts of `Signs` are.
-pub(crate) fn say_line<'a, W: Write>(
-    out: &mut W,
-    widths: &'a [usize],
-    numbers: &'a [u64],
-    outline: Outline,
-) -> io::Result<()>
-    requires { Ok outline ≡ answered (signs_refusal widths.now numbers.now) (outline_of widths.now numbers.now) }
-{
-    let signs = Signs::over(widths, numbers, outline);
-    say(out, &signs, 0)?;
-    writeln!(out)
+// Its register, its tests, and its further questions in brackets. A question tells of tests and further questions by
+// number, so the loops count.
+impl fmt::Display for Words<'_> {
+    ghost output = { λ words. Some (question_words (asked_at words.question)) };
+
+    fn fmt<W: fmt::Write>(&self, f: &mut fmt::Formatter<W>) -> fmt::Result {
+        let question = self.question;
+        write!(f, "register {}: ", question.register())?;
+        let tests = question.tests();
+        let further = question.further();
+        if tests == 0 && further == 0 {
+            return f.write_str("any row");
+        }
+        for i in 0..tests {
+            write!(f, "{}{}", separator(i), question.test(i))?;
+        }
+        for i in 0..further {
+            let between = separator(tests + i);
+            let column = question.column(i);
+            write!(f, "{between}column {column} is a key of (")?;
+            let words = Words {
+                question: question.begin(i),
+            };
+            words.fmt(f)?;
+            f.write_str(")")?;
+        }
+        Ok(())
+    }
 }

@@ -1,8 +1,12 @@
 // The times of registers of several sizes.
-use crate::samples::{Keys, QUESTIONS, Rows, Shape};
-use crate::searches::{Questions, Times};
-use crate::timing::Tenths;
-use crate::{checks, samples, searches};
+ghost use Rattle.std.specs.Prelude.{◌<◌};
+
+use crate::samples::{QUESTIONS, Questions, Rows, Shape};
+use crate::searches::Times;
+use registers::check;
+use registers::layout::survey;
+use std::io;
+use timing::Timed;
 
 // How many runs the least time is taken from.
 const RUNS: usize = 15;
@@ -39,57 +43,70 @@ const SHAPES: [Shape; 4] = [
     },
 ];
 
-// Prints one time, and what takes it.
-fn line(rt: &HostRuntime, time: Tenths, what: &str) -> anyhow::Result<()> {
-    println!(rt; "{time} ns {what}")?;
-    Ok(())
+// The time of work on all copies, each of so many numbers.
+fn time_copies<F: Fn(&[u64]) -> Option<u64>>(
+    rt: &HostRuntime,
+    copies: &[u64],
+    len: usize,
+    work: F,
+) -> io::Result<Timed>
+    requires { F.IsAlwaysCallable work }
+{
+    let len = len.max(1);
+    Timed::of_runs(
+        rt,
+        RUNS,
+        ||
+            requires size { 0 < len }
+            requires calls { F.IsAlwaysCallable work }
+        { copies.chunks(len).filter_map(|copy| work(copy)).sum() },
+    )
 }
 
-// The times of an index over the first copy of registers.
-fn time_searches(rt: &HostRuntime, base: &[u64], shape: Shape) -> anyhow::Result<Times> {
-    let present = samples::mixed(rt.alloc(), shape, Keys::Present)?;
-    let absent = samples::mixed(rt.alloc(), shape, Keys::Absent)?;
-    let mut times = Times::NONE;
+// The times of an index over registers of a shape.
+fn time_index(rt: &HostRuntime, base: &[u64], shape: Shape) -> anyhow::Result<Times> {
+    let questions = Questions::mixed(rt.alloc(), shape)?;
+    let mut times = Times::default();
     for _run in 0..RUNS {
-        let questions = Questions {
-            present: present.as_slice(),
-            absent: absent.as_slice(),
-        };
-        searches::time_index(rt, base, questions, &mut times)?;
+        times.add_run(rt, base, &questions)?;
     }
     Ok(times)
 }
 
 // Prints the times of one shape.
 fn tell_shape(rt: &HostRuntime, shape: Shape) -> anyhow::Result<()> {
-    let base = samples::make(rt.alloc(), shape)?;
-    let base = base.as_slice();
+    let base = shape.make(rt.alloc())?;
     let copies = shape.copies.max(1) as usize;
     let len = base.len() / copies;
+    let base = base.as_slice();
     let name = shape.name;
     println!(rt; "{name}, {len} numbers")?;
-    let checked = checks::time_check(rt, base, len, RUNS)?;
-    line(rt, checked.per(copies), "to check them")?;
-    let surveyed = checks::time_survey(rt, base, len, RUNS)?;
-    line(rt, surveyed.per(copies), "to survey them")?;
-    let times = time_searches(rt, &base[0..len], shape)?;
+    let checked = time_copies(rt, base, len, |copy| check(copy).ok().map(|()| 1))?;
+    let surveyed = time_copies(rt, base, len, |copy| {
+        let registers = survey(copy).ok()?;
+        Some(registers.directory.blocks as u64)
+    })?;
+    let times = time_index(rt, &base[..len], shape)?;
     let questions = QUESTIONS as usize;
-    line(rt, times.fill.per(1), "to make room and enter all blocks")?;
-    line(
-        rt,
-        times.present.per(questions),
-        "to look up a key that is there",
-    )?;
-    line(
-        rt,
-        times.read.per(questions),
-        "to look it up and add up its first row",
-    )?;
-    line(
-        rt,
-        times.absent.per(questions),
-        "to look up a key that is not there",
-    )?;
+    for (time, what) in [
+        (checked.per(copies), "to check them"),
+        (surveyed.per(copies), "to survey them"),
+        (times.fill.per(1), "to make room and enter all blocks"),
+        (
+            times.present.per(questions),
+            "to look up a key that is there",
+        ),
+        (
+            times.read.per(questions),
+            "to look it up and add up its first row",
+        ),
+        (
+            times.absent.per(questions),
+            "to look up a key that is not there",
+        ),
+    ] {
+        println!(rt; "{time} ns {what}")?;
+    }
     let sum = checked
         .sum
         .wrapping_add(surveyed.sum)

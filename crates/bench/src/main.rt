@@ -3,16 +3,15 @@
 #![tactic(auto)]
 
 mod answers;
-mod checks;
 mod figures;
 mod samples;
 mod searches;
-mod timing;
 
 use anyhow::anyhow;
 use std::env;
 
-// Prints the times where the argument asks for them.
+// Prints the times where the argument asks for them. In `bench_questions` it stands with other words and calls: a
+// function for both would take all of them.
 fn run(rt: &HostRuntime) -> anyhow::Result<()> {
     let mut words = env::args(rt)?;
     let _program = words.next();

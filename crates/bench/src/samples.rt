@@ -25,12 +25,14 @@ pub enum Rows {
     Most,
 }
 
-// How many rows the block of a number has.
-fn rows_of(rows: Rows, n: u32) -> u64 {
-    match rows {
-        Rows::Few if n % 9 == 4 => 2 + u64::from(n % 3),
-        Rows::Few => 1,
-        Rows::Most => 64,
+impl Rows {
+    // How many rows the block of a number has.
+    fn of(self, number: u32) -> u64 {
+        match self {
+            Rows::Few if number % 9 == 4 => 2 + u64::from(number % 3),
+            Rows::Few => 1,
+            Rows::Most => 64,
+        }
     }
 }
 
@@ -44,36 +46,69 @@ pub struct Shape {
     pub copies: u32,
 }
 
-// Adds a register whose keys come from the numbers from `first` on.
-fn add_register(base: &mut Vec<u64>, shape: Shape, first: u32) -> Result<(), AllocError> {
-    base.push(u64::from(shape.blocks))?;
-    base.push(shape.columns)?;
-    for i in 0..shape.blocks {
-        let rows = rows_of(shape.rows, i);
-        let key = scattered(first.wrapping_add(i));
-        base.push(u64::from(key))?;
-        base.push(rows)?;
-        for _row in 0..rows {
-            for column in 0..shape.columns {
-                base.push((u64::from(key) ^ column) >> 1)?;
+impl Shape {
+    // Adds a register whose keys come from the numbers from `first` on.
+    fn add_register(self, base: &mut Vec<u64>, first: u32) -> Result<(), AllocError> {
+        base.extend_from_slice(&[u64::from(self.blocks), self.columns])?;
+        for number in 0..self.blocks {
+            let rows = self.rows.of(number);
+            let key = u64::from(scattered(first.wrapping_add(number)));
+            base.extend_from_slice(&[key, rows])?;
+            for _row in 0..rows {
+                for column in 0..self.columns {
+                    base.push((key ^ column) >> 1)?;
+                }
             }
         }
+        Ok(())
     }
-    Ok(())
-}
 
-// All copies of the registers, one behind the other. Those of the first copy have the keys from the numbers 0, 1, ..
-pub(crate) fn make(heap: Global, shape: Shape) -> Result<Vec<u64>, AllocError> {
-    let mut base = Vec::new(heap);
-    let mut first = 0u32;
-    for _copy in 0..shape.copies {
-        base.push(u64::from(REGISTERS))?;
-        for _register in 0..REGISTERS {
-            add_register(&mut base, shape, first)?;
-            first = first.wrapping_add(shape.blocks);
+    // All copies of the registers, one behind the other. Those of the first copy have the keys from the numbers 0, 1,
+    // ..
+    pub(crate) fn make(self, heap: Global) -> Result<Vec<u64>, AllocError> {
+        let mut base = Vec::new(heap);
+        let mut first = 0u32;
+        for _copy in 0..self.copies {
+            base.push(u64::from(REGISTERS))?;
+            for _register in 0..REGISTERS {
+                self.add_register(&mut base, first)?;
+                first = first.wrapping_add(self.blocks);
+            }
+        }
+        Ok(base)
+    }
+
+    // How many keys the registers of a copy have.
+    fn key_count(self) -> u32 {
+        self.blocks.saturating_mul(REGISTERS)
+    }
+
+    // The look-up of the key that comes from a number, in the register of the first copy that the number belongs to.
+    fn question(self, number: u32, keys: Keys) -> Question {
+        Question {
+            register: (number / self.blocks.max(1)) as usize,
+            key: u64::from(scattered(number.wrapping_add(keys.first()))),
         }
     }
-    Ok(base)
+}
+
+// Which keys are looked up.
+#[derive(Clone, Copy)]
+enum Keys {
+    // Those that the registers have.
+    Present,
+    // Others.
+    Absent,
+}
+
+impl Keys {
+    // The number from which the first of them comes.
+    fn first(self) -> u32 {
+        match self {
+            Keys::Present => 0,
+            Keys::Absent => OTHERS,
+        }
+    }
 }
 
 // A key to look up in a register.
@@ -83,47 +118,42 @@ pub struct Question {
     pub key: u64,
 }
 
-// Which keys are looked up.
-#[derive(Clone, Copy)]
-pub enum Keys {
-    // Those that the registers have.
-    Present,
-    // Others.
-    Absent,
+// The keys that are looked up: some that are there, and as many that are not.
+#[derive(Drop)]
+pub struct Questions {
+    pub present: Vec<Question>,
+    pub absent: Vec<Question>,
 }
 
-// The look-up of the key that comes from a number, in the register of the first copy that the number belongs to.
-fn question_of(shape: Shape, number: u32, keys: Keys) -> Question {
-    let from = match keys {
-        Keys::Present => 0,
-        Keys::Absent => OTHERS,
-    };
-    Question {
-        register: (number / shape.blocks.max(1)) as usize,
-        key: u64::from(scattered(number.wrapping_add(from))),
+impl Questions {
+    // Look-ups of the keys that come from so many numbers.
+    fn of_numbers<F: Fn(u32) -> u32>(
+        heap: Global,
+        shape: Shape,
+        count: u32,
+        number: F,
+    ) -> Result<Questions, AllocError>
+        requires { F.IsAlwaysCallable number }
+    {
+        let of = |keys: Keys| {
+            (0..count)
+                .map(|i| shape.question(number(i), keys))
+                .collect(heap)
+        };
+        Ok(Questions {
+            present: of(Keys::Present)?,
+            absent: of(Keys::Absent)?,
+        })
     }
-}
 
-// How many keys the registers of a copy have.
-fn key_count(shape: Shape) -> u32 {
-    shape.blocks.saturating_mul(REGISTERS)
-}
-
-// A look-up for each key of the registers, or for as many others, in the order of the numbers they come from.
-pub(crate) fn each(heap: Global, shape: Shape, keys: Keys) -> Result<Vec<Question>, AllocError> {
-    let mut questions = Vec::new(heap);
-    for number in 0..key_count(shape) {
-        questions.push(question_of(shape, number, keys))?;
+    // A look-up for each key of the registers, and for as many others, in the order of the numbers they come from.
+    pub(crate) fn each(heap: Global, shape: Shape) -> Result<Questions, AllocError> {
+        Questions::of_numbers(heap, shape, shape.key_count(), |i| i)
     }
-    Ok(questions)
-}
 
-// Look-ups of keys of the registers in no order, or of others.
-pub(crate) fn mixed(heap: Global, shape: Shape, keys: Keys) -> Result<Vec<Question>, AllocError> {
-    let mut questions = Vec::new(heap);
-    let all = key_count(shape).max(1);
-    for i in 0..QUESTIONS {
-        questions.push(question_of(shape, scattered(i) % all, keys))?;
+    // Look-ups of keys of the registers in no order, and of others.
+    pub(crate) fn mixed(heap: Global, shape: Shape) -> Result<Questions, AllocError> {
+        let all = shape.key_count().max(1);
+        Questions::of_numbers(heap, shape, QUESTIONS, |i| scattered(i) % all)
     }
-    Ok(questions)
 }

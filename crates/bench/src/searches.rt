@@ -1,50 +1,50 @@
 // Look-ups through an index, in room of several sizes.
 ghost use Rattle.std.specs.Prelude.{◌≤◌};
-ghost use Rattle.registers.specs.Indexing.{Enough, Indexed, Room};
+ghost use Rattle.registers.specs.Indexing.{Enough};
 
-use crate::samples::Question;
-use crate::timing::{Found, Timed};
-use anyhow::anyhow;
-use registers::filling::{MAX_PLACES, MAX_SLOTS, fill};
+use crate::samples::{Question, Questions};
+use registers::filling::{MAX_PLACES, MAX_SLOTS};
 use registers::index::Index;
-use registers::layout::{Directory, survey};
-use registers::table::Slot;
+use registers::layout::survey;
+use registers::registers::Registers;
+use std::io;
 use std::time::Instant;
+use timing::{Found, Timed};
 
-// Looks all keys up, and adds up the numbers of their blocks.
-fn find_all(index: &Index, questions: &[Question]) -> Found {
-    let mut found = Found::NONE;
-    for question in questions {
-        if let Some(number) = index.find(question.register, question.key) {
-            found.add(number as u64);
-        }
-    }
-    found
+// The number of the block under a key.
+fn number_under(index: &Index, question: &Question) -> Option<u64> {
+    Some(index.find(question.register, question.key)? as u64)
 }
 
-// Looks all keys up, and adds up their first rows.
-fn read_all(index: &Index, questions: &[Question]) -> Found {
-    let mut found = Found::NONE;
-    for question in questions {
-        let register = question.register;
-        let Some(number) = index.find(register, question.key) else {
-            continue;
-        };
-        let block = index.block(register, number);
-        if block.rows > 0 {
-            let mut sum = 0u64;
-            for x in block.row(0) {
-                sum = sum.wrapping_add(*x);
-            }
-            found.add(sum);
-        }
+// The sum of the first row under a key.
+fn first_row(index: &Index, question: &Question) -> Option<u64> {
+    let number = index.find(question.register, question.key)?;
+    let block = index.block(question.register, number);
+    if block.rows == 0 {
+        return None;
     }
-    found
+    let row = block.row(0);
+    Some(row.iter().fold(0u64, |sum, x| sum.wrapping_add(*x)))
+}
+
+// What is found under all keys. Joined with the reading of the clock, the loop was up to a sixth slower.
+#[inline(never)]
+fn find_all<F: Fn(&Index, &Question) -> Option<u64>>(
+    index: &Index,
+    questions: &[Question],
+    find: F,
+) -> Found
+    requires { F.IsAlwaysCallable find }
+{
+    questions
+        .iter()
+        .filter_map(|question| find(index, question))
+        .sum()
 }
 
 // The times of an index: to make room and enter all blocks, to look keys up that are there, to read their first rows
 // too, and to look keys up that are not there.
-#[derive(Clone, Copy)]
+#[derive(Clone, Copy, Default)]
 pub struct Times {
     pub fill: Timed,
     pub present: Timed,
@@ -53,116 +53,59 @@ pub struct Times {
 }
 
 impl Times {
-    pub const NONE: Times = Times {
-        fill: Timed::NONE,
-        present: Timed::NONE,
-        read: Timed::NONE,
-        absent: Timed::NONE,
-    };
-
     // The sum of what all runs found.
     pub(crate) fn sum(&self) -> u64 {
-        self.present
-            .sum
-            .wrapping_add(self.read.sum)
-            .wrapping_add(self.absent.sum)
+        [self.present, self.read, self.absent]
+            .iter()
+            .fold(0u64, |sum, timed| sum.wrapping_add(timed.sum))
     }
-}
 
-// The keys that are looked up: some that are there, and some that are not.
-#[derive(Clone, Copy)]
-pub struct Questions<'a> {
-    pub present: &'a [Question],
-    pub absent: &'a [Question],
-}
+    // Adds the times of the look-ups of one run.
+    fn add_finds(
+        &mut self,
+        rt: &HostRuntime,
+        index: &Index,
+        questions: &Questions,
+    ) -> io::Result<()> {
+        self.present
+            .run(rt, || find_all(index, &questions.present, number_under))?;
+        self.absent
+            .run(rt, || find_all(index, &questions.absent, number_under))?;
+        self.read
+            .run(rt, || find_all(index, &questions.present, first_row))
+    }
 
-// Times the look-ups of one run in room that is filled.
-fn time_finds<'a>(
-    rt: &HostRuntime,
-    base: &'a [u64],
-    directory: &'a Directory,
-    slots: &'a [Slot],
-    places: &'a [usize],
-    questions: Questions,
-    times: &mut Times,
-) -> anyhow::Result<()>
-    requires { Indexed base.now directory.now slots.now places.now }
-{
-    let index = Index::over(base, directory, slots, places);
-    let start = Instant::now(rt)?;
-    let found = find_all(&index, questions.present);
-    times.present.add(start.elapsed(rt)?, found);
-    let start = Instant::now(rt)?;
-    let found = find_all(&index, questions.absent);
-    times.absent.add(start.elapsed(rt)?, found);
-    let start = Instant::now(rt)?;
-    let found = read_all(&index, questions.present);
-    times.read.add(start.elapsed(rt)?, found);
-    Ok(())
-}
+    // Adds one run in room of a given size. What bounds the sizes is said of constants, which no type can carry.
+    fn add_in_room<const SLOTS: usize, const PLACES: usize>(
+        &mut self,
+        rt: &HostRuntime,
+        registers: Registers,
+        questions: &Questions,
+    ) -> anyhow::Result<()>
+        requires enough { Enough registers.base.now registers.directory SLOTS PLACES }
+        requires sizes { (SLOTS ≤ 65544) × (PLACES ≤ 32768) }
+    {
+        let start = Instant::now(rt)?;
+        let mut slots = [None; SLOTS];
+        let mut places = [0; PLACES];
+        let index = registers.indexed(&mut slots, &mut places)?;
+        self.fill.add(start.elapsed(rt)?, Found::default());
+        self.add_finds(rt, &index, questions)?;
+        Ok(())
+    }
 
-// Fills room, from the time on at which it was made, and times the look-ups of one run in it.
-fn time_fill(
-    rt: &HostRuntime,
-    base: &[u64],
-    directory: &Directory,
-    slots: &mut [Slot],
-    places: &mut [usize],
-    start: Instant,
-    questions: Questions,
-    times: &mut Times,
-) -> anyhow::Result<()>
-    requires { Room base.now directory.now slots.old places.old }
-{
-    let Ok(()) = fill(base, directory, slots, places) else {
-        return Err(anyhow!("the registers are refused"));
-    };
-    times.fill.add(start.elapsed(rt)?, Found::NONE);
-    time_finds(rt, base, directory, slots, places, questions, times)
-}
-
-// Times one run in room of a given size.
-fn time_room<const SLOTS: usize, const PLACES: usize>(
-    rt: &HostRuntime,
-    base: &[u64],
-    directory: &Directory,
-    questions: Questions,
-    times: &mut Times,
-) -> anyhow::Result<()>
-    requires enough { Enough base.now directory.now SLOTS PLACES }
-    requires sizes { (SLOTS ≤ 65544) × (PLACES ≤ 32768) }
-{
-    let start = Instant::now(rt)?;
-    let mut slots = [Slot::FREE; SLOTS];
-    let mut places = [0; PLACES];
-    time_fill(
-        rt,
-        base,
-        directory,
-        &mut slots,
-        &mut places,
-        start,
-        questions,
-        times,
-    )
-}
-
-// Times one run in room of a size that suits the registers.
-pub(crate) fn time_index(
-    rt: &HostRuntime,
-    base: &[u64],
-    questions: Questions,
-    times: &mut Times,
-) -> anyhow::Result<()> {
-    let Ok(directory) = survey(base) else {
-        return Err(anyhow!("the registers are refused"));
-    };
-    let blocks = directory.blocks;
-    if blocks <= 16 {
-        time_room::<40, 16>(rt, base, &directory, questions, times)
-    } else if blocks <= 512 {
-        time_room::<1032, 512>(rt, base, &directory, questions, times)
-    } else {
-        time_room::<MAX_SLOTS, MAX_PLACES>(rt, base, &directory, questions, times)
+    // Adds one run in room of a size that suits the registers, as the check of them has it.
+    pub(crate) fn add_run(
+        &mut self,
+        rt: &HostRuntime,
+        base: &[u64],
+        questions: &Questions,
+    ) -> anyhow::Result<()> {
+        let registers = survey(base)?;
+        match registers.directory.blocks {
+            0..=16 => self.add_in_room::<40, 16>(rt, registers, questions),
+            17..=512 => self.add_in_room::<1032, 512>(rt, registers, questions),
+            _ => self.add_in_room::<MAX_SLOTS, MAX_PLACES>(rt, registers, questions),
+        }
     }
 }

@@ -2,21 +2,16 @@
 #![tactic(auto)]
 
 mod readings;
-mod timing;
 
 use anyhow::anyhow;
-use readings::{COPIES, FORMS};
+use readings::{COPIES, FORMS, RUNS};
 use std::env;
-
-// How often each time is taken.
-const RUNS: usize = 15;
 
 // Prints how many questions of each form are read as they should.
 fn tell_answers(rt: &HostRuntime) -> anyhow::Result<()> {
     for form in FORMS {
-        let signs = readings::make(rt.alloc(), form)?;
-        let len = signs.len() / COPIES as usize;
-        let right = readings::count_right(signs.as_slice(), len, form);
+        let signs = form.make(rt.alloc())?;
+        let right = form.count_right(&signs);
         let name = form.name;
         println!(rt; "{name}: {right} of {COPIES} questions read as expected")?;
     }
@@ -28,13 +23,11 @@ fn tell_answers(rt: &HostRuntime) -> anyhow::Result<()> {
 fn tell_figures(rt: &HostRuntime) -> anyhow::Result<()> {
     println!(rt; "The least time of {RUNS} runs.")?;
     println!(rt; "questions over 8 registers of 8 columns, with 4 tests at each sign")?;
-    let copies = COPIES as usize;
     let mut sum = 0u64;
     for form in FORMS {
-        let signs = readings::make(rt.alloc(), form)?;
-        let len = signs.len() / copies;
-        let read = readings::time_read(rt, signs.as_slice(), len, RUNS)?;
-        let time = read.per(copies);
+        let signs = form.make(rt.alloc())?;
+        let read = readings::time_read(rt, &signs)?;
+        let time = read.per(COPIES as usize);
         let name = form.name;
         println!(rt; "{time} ns to read {name}")?;
         sum = sum.wrapping_add(read.sum);
@@ -43,7 +36,8 @@ fn tell_figures(rt: &HostRuntime) -> anyhow::Result<()> {
     Ok(())
 }
 
-// Prints the times where the argument asks for them.
+// Prints the times where the argument asks for them. In `bench` it stands with other words and calls: a function
+// for both would take all of them.
 fn run(rt: &HostRuntime) -> anyhow::Result<()> {
     let mut words = env::args(rt)?;
     let _program = words.next();

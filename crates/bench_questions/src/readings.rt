@@ -1,11 +1,18 @@
 // Reading questions from their signs.
-use crate::timing::{Found, Timed};
+ghost use Rattle.std.specs.Prelude.{◌<◌};
+ghost use Rattle.std.specs.Slice.Iter.{chunks_size};
+
 use questions::reading::read;
 use std::alloc::{AllocError, Global};
-use std::time::Instant;
+use std::io;
+use std::slice::Chunks;
+use timing::Timed;
 
 // How often a question is made and read in a run.
 pub const COPIES: u32 = 256;
+
+// How often each time is taken.
+pub const RUNS: usize = 15;
 
 // The columns of the registers to which the questions go.
 const WIDTHS: [usize; 8] = [8; 8];
@@ -14,8 +21,8 @@ const WIDTHS: [usize; 8] = [8; 8];
 #[derive(Clone, Copy)]
 pub struct Form {
     pub name: &'static str,
-    pub further: &'static [usize],
-    pub ends: [usize; 8],
+    further: &'static [usize],
+    ends: [usize; 8],
 }
 
 // The questions that are read.
@@ -37,59 +44,48 @@ pub const FORMS: [Form; 3] = [
     },
 ];
 
-// All copies of a question, one behind the other. Each sign goes to the register of its own number, and has four tests,
-// one of each kind, against the number of the copy.
-pub(crate) fn make(heap: Global, form: Form) -> Result<Vec<u64>, AllocError> {
-    let mut signs = Vec::new(heap);
-    for copy in 0..COPIES {
-        for (sign, further) in form.further.iter().enumerate() {
-            signs.extend_from_slice(&[sign as u64, 4])?;
-            for test in 0..4 {
-                signs.extend_from_slice(&[test, test, u64::from(copy)])?;
+impl Form {
+    // All copies of a question, one behind the other. Each sign goes to the register of its own number, and has four
+    // tests, one of each kind, against the number of the copy.
+    pub(crate) fn make(self, heap: Global) -> Result<Vec<u64>, AllocError> {
+        let mut signs = Vec::new(heap);
+        for copy in 0..COPIES {
+            for (sign, further) in self.further.iter().enumerate() {
+                signs.extend_from_slice(&[sign as u64, 4])?;
+                for test in 0..4 {
+                    signs.extend_from_slice(&[test, test, u64::from(copy)])?;
+                }
+                signs.extend_from_slice(&[*further as u64, 0, 1, 2, 3])?;
             }
-            signs.extend_from_slice(&[*further as u64, 0, 1, 2, 3])?;
         }
+        Ok(signs)
     }
-    Ok(signs)
+
+    // Whether signs are read as a question of this form.
+    fn is_read(self, signs: &[u64]) -> bool {
+        read(&WIDTHS, signs).is_ok_and(|read| read.outline.count == self.further.len()
+            && read.outline.ends == self.ends)
+    }
+
+    // How many copies are read as questions of this form.
+    pub(crate) fn count_right(self, signs: &[u64]) -> usize {
+        copies(signs).filter(|copy| self.is_read(copy)).count()
+    }
 }
 
-// Reads all copies, each of so many numbers, and adds their signs up.
-fn read_all(copies: &[u64], len: usize) -> Found {
-    let mut found = Found::NONE;
-    for copy in copies.chunks(len.max(1)) {
-        if let Ok(outline) = read(&WIDTHS, copy) {
-            found.add(outline.count as u64);
-        }
-    }
-    found
+// How many signs a question has, where it is read.
+fn sign_count(signs: &[u64]) -> Option<u64> {
+    Some(read(&WIDTHS, signs).ok()?.outline.count as u64)
 }
 
-// How many copies are read as questions of this form.
-pub(crate) fn count_right(copies: &[u64], len: usize, form: Form) -> usize {
-    let mut right = 0usize;
-    for copy in copies.chunks(len.max(1)) {
-        if let Ok(outline) = read(&WIDTHS, copy)
-            && outline.count == form.further.len()
-            && outline.ends == form.ends
-        {
-            right = right.wrapping_add(1);
-        }
-    }
-    right
+// The signs of each copy.
+fn copies(signs: &[u64]) -> Chunks<'_, u64>
+    ensures { 0 < chunks_size result }
+{
+    signs.chunks((signs.len() / COPIES as usize).max(1))
 }
 
-// The time to read all copies.
-pub(crate) fn time_read(
-    rt: &HostRuntime,
-    copies: &[u64],
-    len: usize,
-    runs: usize,
-) -> anyhow::Result<Timed> {
-    let mut timed = Timed::NONE;
-    for _run in 0..runs {
-        let start = Instant::now(rt)?;
-        let found = read_all(copies, len);
-        timed.add(start.elapsed(rt)?, found);
-    }
-    Ok(timed)
+// The time to read all copies, and their signs.
+pub(crate) fn time_read(rt: &HostRuntime, signs: &[u64]) -> io::Result<Timed> {
+    Timed::of_runs(rt, RUNS, || copies(signs).filter_map(sign_count).sum())
 }

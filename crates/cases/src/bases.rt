@@ -4,16 +4,6 @@ use std::alloc::{AllocError, Global};
 // Keys whose ways all begin at the last slot of a table for twelve keys.
 pub const COLLIDING: [u64; 12] = [21, 55, 76, 110, 131, 144, 165, 199, 220, 254, 288, 309];
 
-// Sluices (polder, width), polders (level, board) and boards: 48 numbers; the registers begin at 1, 23 and 39.
-pub(crate) fn sluices(heap: Global) -> Result<Vec<u64>, AllocError> {
-    let mut base = Vec::from_slice(heap, &[3])?;
-    base.extend_from_slice(&[4, 2, 1, 1, 10, 4, 2, 2, 10, 6, 11, 6])?;
-    base.extend_from_slice(&[3, 1, 12, 5, 4, 2, 11, 9, 11, 8])?;
-    base.extend_from_slice(&[3, 2, 10, 1, 3, 7, 11, 2, 3, 7, 5, 7, 12, 1, 2, 8])?;
-    base.extend_from_slice(&[2, 1, 7, 1, 1, 8, 2, 1, 0])?;
-    Ok(base)
-}
-
 // Adds a register whose blocks have the keys 0, 1, 2 and so on, so many rows each, and their key in every cell.
 pub(crate) fn add_plain(
     base: &mut Vec<u64>,

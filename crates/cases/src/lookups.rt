@@ -1,5 +1,6 @@
 // What is looked up under a key.
-use crate::bases::{COLLIDING, add_plain, high_keys, sluices, under_keys};
+use crate::bases::{COLLIDING, add_plain, high_keys, under_keys};
+use registers::example::sluices;
 use registers::look_up;
 use registers::refusals::Refusal;
 use std::process::Abort;
@@ -16,8 +17,7 @@ fn check_numbers(rt: &impl Abort, base: &[u64], keys: &[u64]) -> Result<(), Fail
 // Every key of the example.
 #[test]
 fn example(rt: HostRuntime) -> Result<(), Fail> {
-    let base = sluices(rt.alloc())?;
-    let base = base.as_slice();
+    let base = &sluices()[..];
     assert_eq!(rt; look_up(base, 0, 1)?, Some(&[10, 4][..]));
     assert_eq!(rt; look_up(base, 0, 2)?, Some(&[10, 6, 11, 6][..]));
     assert_eq!(rt; look_up(base, 0, 3)?, Some(&[12, 5][..]));
@@ -33,8 +33,7 @@ fn example(rt: HostRuntime) -> Result<(), Fail> {
 // Keys that the register lacks, though another has them, and registers that are not there.
 #[test]
 fn absent(rt: HostRuntime) -> Result<(), Fail> {
-    let base = sluices(rt.alloc())?;
-    let base = base.as_slice();
+    let base = &sluices()[..];
     assert!(rt; look_up(base, 0, 0)?.is_none());
     assert!(rt; look_up(base, 0, 10)?.is_none());
     assert!(rt; look_up(base, 1, 7)?.is_none());

@@ -1,6 +1,7 @@
 // Which slices are refused, and at which register.
-use crate::bases::{COLLIDING, add_plain, high_keys, sluices, under_keys};
+use crate::bases::{COLLIDING, add_plain, high_keys, under_keys};
 use registers::check as checked;
+use registers::example::sluices;
 use registers::layout::NUMBER_LIMIT;
 use registers::refusals::Refusal;
 use std::alloc::{AllocError, Global};
@@ -39,8 +40,7 @@ fn keyed(heap: Global, keys: &[u64]) -> Result<Result<(), Refusal>, AllocError> 
 // The example and every beginning of it.
 #[test]
 fn cut_short(rt: HostRuntime) -> Result<(), Fail> {
-    let base = sluices(rt.alloc())?;
-    let base = base.as_slice();
+    let base = &sluices()[..];
     assert!(rt; base.len() == 48);
     for len in 0..48 {
         let register = match len {
@@ -49,7 +49,7 @@ fn cut_short(rt: HostRuntime) -> Result<(), Fail> {
             23..39 => 1,
             _ => 2,
         };
-        assert_eq!(rt; checked(&base[0..len]), layout(register), "{len}");
+        assert_eq!(rt; checked(&base[..len]), layout(register), "{len}");
     }
     assert_eq!(rt; checked(base), Ok(()));
     Ok(())

@@ -1,2 +1,3 @@
 -- How bytes become numbers.
 pub mod Numbers
+pub mod Held

@@ -1,6 +1,5 @@
 -- Which numbers bytes stand for. Assumes nothing: these are definitions.
-use Rattle.std.specs.Prelude.{◌≡◌, ℕ, ◌+◌, ◌*◌, List, [], ◌∷◌, ◌++◌, vec_items}
-use Rattle.input.specs.declared.numbers.Numbers.{Numbers}
+use Rattle.std.specs.Prelude.{ℕ, ◌+◌, ◌*◌, List, [], ◌∷◌}
 
 -- the number that four bytes stand for, the low byte first
 abbrev pub number_of : (a b c d : ℕ) → ℕ
@@ -21,12 +20,3 @@ rest_of (a ∷ []) = a ∷ []
 rest_of (a ∷ b ∷ []) = a ∷ b ∷ []
 rest_of (a ∷ b ∷ c ∷ []) = a ∷ b ∷ c ∷ []
 rest_of (a ∷ b ∷ c ∷ d ∷ bytes) = rest_of bytes
-
--- what is held after these bytes, in however many parts they came
-pub record Holds (bytes : List ℕ) (n : Numbers) : Type 0 where
-  pub items : vec_items n.items ≡ numbers_of bytes
-  pub rest : vec_items n.rest ≡ rest_of bytes
-
--- a part was added to whatever bytes came before it
-abbrev pub Added : List ℕ → Numbers → Numbers → Type 0
-Added part before after = (bytes : List ℕ) → Holds bytes before → Holds (bytes ++ part) after

@@ -1,34 +1,53 @@
 // Numbers of four bytes each, low byte first, from bytes that come in parts.
-ghost use Rattle.std.specs.Prelude.{◌≡◌, [], ◌∷◌, IfOk, OnOk};
-ghost use Rattle.input.specs.Numbers.{Added, Holds, number_of};
+ghost use Rattle.std.specs.Prelude.{◌≡◌, ◌+◌, ◌*◌, ◌/◌, ◌≤◌, [], ◌∷◌, ◌++◌, IfOk, OnOk, OnErr, length, vec_len, vec_capacity};
+ghost use Rattle.input.specs.Numbers.{numbers_of, rest_of};
+ghost use Rattle.input.specs.Held.{Added, Holds, Kept};
 
+use crate::from_parts::FromParts;
+use crate::rest::Rest;
 use std::alloc::{AllocError, Global};
 
 // How many bytes a number has.
 pub const WIDTH: usize = 4;
 
 // The number that four bytes stand for.
-fn number(a: u8, b: u8, c: u8, d: u8) -> u64
-    ensures { result ≡ number_of a b c d }
+#[tactic(auto, using(crate::proofs::Parts::one_number))]
+pub fn number(bytes: [u8; WIDTH]) -> u64
+    ensures { numbers_of bytes ≡ result ∷ [] }
 {
-    u64::from(u32::from_le_bytes([a, b, c, d]))
+    u64::from(u32::from_le_bytes(bytes))
+}
+
+// Pushes the numbers that the bytes stand for; answers the bytes at the end that are too few for a number. They go one
+// by one into room that is there, since `extend` may fail half way.
+fn push_numbers<'a>(numbers: &mut Vec<u64>, bytes: &'a [u8]) -> &'a [u8]
+    requires { vec_len numbers.old + length bytes.now / 4 ≤ vec_capacity numbers.old }
+    ensures numbers { numbers.new.items ≡ numbers.old.items ++ numbers_of bytes.now }
+    ensures room { vec_capacity numbers.new ≡ vec_capacity numbers.old }
+    ensures rest { result.now ≡ rest_of bytes.now }
+{
+    let (chunks, rest) = bytes.as_chunks::<WIDTH>();
+    for chunk in chunks {
+        numbers.push_reserved(number(*chunk));
+    }
+    rest
 }
 
 // What the bytes so far stand for. A part may end in the middle of a number.
 #[derive(Drop)]
 pub struct Numbers {
     items: Vec<u64>,
-    // The bytes behind the last number, fewer than four.
-    rest: Vec<u8>,
+    rest: Rest,
 }
 
 impl Numbers {
     // Those of no bytes, with room for so many numbers; more are taken all the same.
     pub fn with_room(heap: Global, room: usize) -> Result<Numbers, AllocError>
-        ensures { IfOk result (λ n. Holds [] n) }
+        ensures none { IfOk result (λ n. Holds [] n) }
+        ensures room { IfOk result (λ n. room ≤ vec_capacity n.items) }
     {
         let items = Vec::with_capacity(heap, room)?;
-        let rest = Vec::new(heap);
+        let rest = Rest::new(heap)?;
         Ok(Numbers { items, rest })
     }
 
@@ -39,36 +58,43 @@ impl Numbers {
         self.items.as_slice()
     }
 
-    // Adds one byte: to the rest, and the rest to the numbers where it is one.
-    fn put(&mut self, byte: u8) -> Result<(), AllocError>
-        ensures { OnOk result (Added (byte ∷ []) self.old self.new) }
+    // Adds as many bytes as a number lacks, or fewer.
+    fn put(&mut self, bytes: &[u8])
+        requires few { vec_len self.old.rest.bytes + length bytes.now ≤ 4 }
+        requires room { vec_len self.old.items + (vec_len self.old.rest.bytes + length bytes.now) / 4 ≤ vec_capacity self.old.items }
+        ensures added { Added bytes.now self.old self.new }
+        ensures room { vec_capacity self.new.items ≡ vec_capacity self.old.items }
+        ensures len { 4 * vec_len self.new.items + vec_len self.new.rest.bytes ≡ 4 * vec_len self.old.items + vec_len self.old.rest.bytes + length bytes.now }
     {
-        self.rest.push(byte)?;
-        let rest = self.rest.as_slice();
-        if rest.len() == WIDTH {
-            let number = number(rest[0], rest[1], rest[2], rest[3]);
-            self.items.push(number)?;
-            self.rest.clear();
+        if let Some(number) = self.rest.add(bytes) {
+            self.items.push_reserved(number);
         }
-        Ok(())
     }
 
-    // Adds a part: four bytes at a time, but one at a time where it begins or ends in the middle of a number.
+    // Adds a part. Where there is no memory for it, all is as it was.
     pub fn add(&mut self, part: &[u8]) -> Result<(), AllocError>
-        ensures { OnOk result (Added part.now self.old self.new) }
+        ensures added { OnOk result (Added part.now self.old self.new) }
+        ensures kept { OnErr result (Kept self.old self.new) }
     {
-        let mut at = 0;
-        while at < part.len() {
-            if self.rest.is_empty() && part.len() - at >= WIDTH {
-                let number = number(part[at], part[at + 1], part[at + 2], part[at + 3]);
-                self.items.push(number)?;
-                at += WIDTH;
-            } else {
-                self.put(part[at])?;
-                at += 1;
-            }
-        }
+        let begun = self.rest.len();
+        self.items.reserve((begun + part.len()) / WIDTH)?;
+        let (front, back) = part.split_at(part.len().min(WIDTH - begun));
+        self.put(front);
+        let rest = push_numbers(&mut self.items, back);
+        self.put(rest);
         Ok(())
+    }
+}
+
+impl FromParts for Numbers {
+    ghost holds = { Holds };
+
+    fn with_byte_room(heap: Global, bytes: usize) -> Result<Numbers, AllocError> {
+        Numbers::with_room(heap, bytes / WIDTH)
+    }
+
+    fn add_part(&mut self, part: &[u8]) -> Result<(), AllocError> {
+        self.add(part)
     }
 }
 

@@ -1,26 +1,29 @@
 // Bytes that come in parts, and beside them the numbers that they stand for.
-ghost use Rattle.std.specs.Prelude.{◌≡◌, [], ◌++◌, drop, is_ok, IfOk, if◌then◌else◌, vec_len};
-ghost use Rattle.input_bytes.specs.Numbers.{numbers_of};
+ghost use Rattle.std.specs.Prelude.{◌≡◌, [], ◌++◌, ◌≤◌, is_ok, IfOk, if◌then◌else◌, vec_capacity};
+ghost use Rattle.input.specs.Numbers.{numbers_of};
+ghost use Rattle.input.specs.Held.{Holds};
 
-use crate::numbers::{WIDTH, number_at};
+use input::from_parts::FromParts;
+use input::numbers::Numbers;
 use std::alloc::{AllocError, Global};
 
 // All bytes so far, and the numbers that they stand for.
 #[derive(Drop)]
 pub struct Input {
     bytes: Vec<u8>,
-    numbers: Vec<u64>,
+    numbers: Numbers,
     // The numbers are always those of the bytes.
-    ghost agree: { numbers.items ≡ numbers_of bytes.items },
+    ghost agree: { Holds bytes.items numbers },
 }
 
 impl Input {
     // No bytes, with room for so many and for their numbers; more are taken all the same.
     pub fn with_room(heap: Global, room: usize) -> Result<Input, AllocError>
-        ensures { IfOk result (λ i. i.bytes.items ≡ []) }
+        ensures none { IfOk result (λ i. i.bytes.items ≡ []) }
+        ensures room { IfOk result (λ i. room ≤ vec_capacity i.bytes) }
     {
         let bytes = Vec::with_capacity(heap, room)?;
-        let numbers = Vec::with_capacity(heap, room / WIDTH)?;
+        let numbers = Numbers::with_byte_room(heap, room)?;
         Ok(Input { bytes, numbers })
     }
 
@@ -42,27 +45,22 @@ impl Input {
     pub fn add(&mut self, part: &[u8]) -> Result<(), AllocError>
         ensures { self.new.bytes.items ≡ (if is_ok result then self.old.bytes.items ++ part.now else self.old.bytes.items) }
     {
-        let len = self.bytes.len();
-        self.bytes.extend_from_slice(part)?;
-        let completed = complete(&self.bytes, &mut self.numbers);
-        if completed.is_err() {
-            self.bytes.truncate(len);
-        }
-        completed
+        self.bytes.reserve(part.len())?;
+        self.numbers.add(part)?;
+        self.bytes.extend_from_slice(part)
     }
 }
 
-// Pushes the numbers that the bytes stand for, from the first place on that is not held yet. Where there is no memory
-// for them, all is as it was.
-fn complete(bytes: &[u8], numbers: &mut Vec<u64>) -> Result<(), AllocError>
-    ensures { numbers.new.items ≡ (if is_ok result then numbers.old.items ++ drop (vec_len numbers.old) (numbers_of bytes.now) else numbers.old.items) }
-{
-    let count = bytes.len() / WIDTH;
-    numbers.reserve(count.saturating_sub(numbers.len()))?;
-    for place in numbers.len()..count {
-        numbers.push_reserved(number_at(bytes, place));
+impl FromParts for Input {
+    ghost holds = { λ bytes input. input.bytes.items ≡ bytes };
+
+    fn with_byte_room(heap: Global, bytes: usize) -> Result<Input, AllocError> {
+        Input::with_room(heap, bytes)
     }
-    Ok(())
+
+    fn add_part(&mut self, part: &[u8]) -> Result<(), AllocError> {
+        self.add(part)
+    }
 }
 
 #[cfg(test)]
@@ -71,7 +69,8 @@ mod tests {
     use std::process::Abort;
     use std::test::Fail;
 
-    // Two parts are held as all their bytes, and as the numbers listed.
+    // Two parts are held as all their bytes, and as the numbers listed. The tests of `input` begin in the same lines,
+    // but feed another type and compare numbers alone.
     fn expect(
         rt: &(impl Abort + AllocGlobal),
         first: &[u8],
@@ -84,6 +83,16 @@ mod tests {
         input.add(second)?;
         assert_eq!(rt; input.bytes(), all);
         assert_eq!(rt; input.numbers(), listed);
+        Ok(())
+    }
+
+    #[test]
+    fn parts_as_they_are_read(rt: HostRuntime) -> Result<(), Fail> {
+        let mut input = Input::with_byte_room(rt.alloc(), 8)?;
+        input.add_part(&[1, 0, 0])?;
+        input.add_part(&[0, 2])?;
+        assert_eq!(rt; input.bytes(), &[1, 0, 0, 0, 2][..]);
+        assert_eq!(rt; input.numbers(), &[1][..]);
         Ok(())
     }
 

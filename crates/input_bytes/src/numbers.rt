@@ -1,25 +1,8 @@
 // The numbers that bytes stand for: four bytes each, low byte first. Fewer than four at the end stand for none.
-ghost use Rattle.std.specs.Prelude.{◌≡◌, ◌+◌, ◌*◌, ◌≤◌, min, ◌++◌, length, take, drop, slice_index};
-ghost use Rattle.input_bytes.specs.Numbers.{number_of, numbers_of};
+ghost use Rattle.std.specs.Prelude.{◌≡◌, min, ◌++◌, length, take, drop};
+ghost use Rattle.input.specs.Numbers.{numbers_of};
 
-// How many bytes a number has.
-pub const WIDTH: usize = 4;
-
-// The number that four bytes stand for.
-fn number(a: u8, b: u8, c: u8, d: u8) -> u64
-    ensures { result ≡ number_of a b c d }
-{
-    u64::from(u32::from_le_bytes([a, b, c, d]))
-}
-
-// The number at a place among those that the bytes stand for.
-pub(crate) fn number_at(bytes: &[u8], place: usize) -> u64
-    requires { 4 * place + 4 ≤ length bytes.now }
-    ensures { result ≡ slice_index (numbers_of bytes.now) place }
-{
-    let at = WIDTH * place;
-    number(bytes[at], bytes[at + 1], bytes[at + 2], bytes[at + 3])
-}
+use input::numbers::{WIDTH, number};
 
 // Writes the numbers that the bytes stand for into the first places, as many as there are places for, and answers how
 // many. The places behind them are as they were.
@@ -27,9 +10,11 @@ pub fn decode(bytes: &[u8], numbers: &mut [u64]) -> usize
     ensures count { result ≡ min (length (numbers_of bytes.now)) (length numbers.old) }
     ensures written { numbers.new ≡ take result (numbers_of bytes.now) ++ drop result numbers.old }
 {
-    let count = (bytes.len() / WIDTH).min(numbers.len());
-    for place in 0..count {
-        numbers[place] = number_at(bytes, place);
+    let (chunks, _) = bytes.as_chunks::<WIDTH>();
+    let count = chunks.len().min(numbers.len());
+    // Not `numbers.iter_mut().zip(chunks)`: of what is written through that no proof learns anything.
+    for (place, chunk) in chunks[..count].iter().enumerate() {
+        numbers[place] = number(*chunk);
     }
     count
 }

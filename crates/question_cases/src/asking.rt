@@ -1,42 +1,32 @@
 // Questions that are read, and asked for what stands at each sign.
-ghost use Rattle.std.specs.Prelude.{◌<◌};
-ghost use Rattle.questions.specs.Views.{signs_in};
-
-use crate::bases::sluices;
 use crate::signs::{add_sign, drained, wide};
 use questions::reading::read;
-use questions::signs::Signs;
+use questions::signs::Question;
 use questions::{check as checked, widths};
+use registers::example::sluices;
 use registers::layout::survey;
 use std::alloc::{AllocError, Global};
 use std::process::Abort;
 use std::test::Fail;
 
-// Adds the tests of a sign: how many, and the column, the kind and the number of each.
-fn list_tests(question: &Signs, sign: usize, list: &mut Vec<u64>) -> Result<(), AllocError>
-    requires { sign < signs_in question.now }
-{
-    let tests = question.tests(sign);
-    list.push(tests as u64)?;
-    for i in 0..tests {
-        let test = question.test(sign, i);
+// Adds the tests of a question: how many, and the column, the kind and the number of each.
+fn list_tests(question: &Question, list: &mut Vec<u64>) -> Result<(), AllocError> {
+    list.push(question.tests() as u64)?;
+    for test in (0..question.tests()).map(|i| question.test(i)) {
         list.extend_from_slice(&[test.column as u64, test.kind as u64, test.number])?;
     }
     Ok(())
 }
 
-// Adds the question that begins at a sign: the sign, its register, its tests, how many further questions it has, and
-// each of them behind its column.
-fn list_question(question: &Signs, sign: usize, list: &mut Vec<u64>) -> Result<(), AllocError>
-    requires { sign < signs_in question.now }
-{
-    list.extend_from_slice(&[sign as u64, question.register(sign) as u64])?;
-    list_tests(question, sign, list)?;
-    let further = question.further(sign);
-    list.push(further as u64)?;
-    for i in 0..further {
-        list.push(question.column(sign, i) as u64)?;
-        list_question(question, question.begin(sign, i), list)?;
+// Adds a question: the sign at which it begins, its register, its tests, how many further questions it has, and each of
+// them behind its column. A chain would name the number of each twice as the loop does, and hide the errors.
+fn list_question(question: &Question, list: &mut Vec<u64>) -> Result<(), AllocError> {
+    list.extend_from_slice(&[question.sign() as u64, question.register() as u64])?;
+    list_tests(question, list)?;
+    list.push(question.further() as u64)?;
+    for i in 0..question.further() {
+        list.push(question.column(i) as u64)?;
+        list_question(&question.begin(i), list)?;
     }
     Ok(())
 }
@@ -47,10 +37,9 @@ pub(crate) fn listed<'a>(
     widths: &'a [usize],
     signs: &'a [u64],
 ) -> Result<Vec<u64>, Fail> {
-    let outline = read(widths, signs)?;
-    let question = Signs::over(widths, signs, outline);
+    let signs = read(widths, signs)?;
     let mut list = Vec::new(heap);
-    list_question(&question, 0, &mut list)?;
+    list_question(&signs.question(), &mut list)?;
     Ok(list)
 }
 
@@ -61,27 +50,26 @@ fn passes<'a>(
     signs: &'a [u64],
     row: &[u64],
 ) -> Result<bool, Fail> {
-    let outline = read(widths, signs)?;
-    let question = Signs::over(widths, signs, outline);
-    let register = question.register(0);
-    assert!(rt; widths[register] <= row.len());
-    Ok(question.passes(0, row))
+    let signs = read(widths, signs)?;
+    let question = signs.question();
+    assert!(rt; widths[question.register()] <= row.len());
+    Ok(question.passes(row))
 }
 
 // The two questions of the example over its registers, of 2, 2 and 1 columns.
 #[test]
 fn example(rt: HostRuntime) -> Result<(), Fail> {
     let heap = rt.alloc();
-    let base = sluices(heap)?;
-    assert_eq!(rt; widths(&survey(base.as_slice())?), [2, 2, 1, 0, 0, 0, 0, 0]);
+    let base = &sluices()[..];
+    assert_eq!(rt; widths(&survey(base)?.directory), [2, 2, 1, 0, 0, 0, 0, 0]);
     let drained = drained(heap, 0)?;
-    assert_eq!(rt; checked(base.as_slice(), drained.as_slice()), Ok(()));
-    let outline = read(&[2, 2, 1], drained.as_slice())?;
+    assert_eq!(rt; checked(base, drained.as_slice()), Ok(()));
+    let outline = read(&[2, 2, 1], drained.as_slice())?.outline;
     assert_eq!(rt; outline.count, 3);
     assert_eq!(rt; outline.ends, [3, 3, 3, 0, 0, 0, 0, 0]);
     let wide = wide(heap, 0)?;
-    assert_eq!(rt; checked(base.as_slice(), wide.as_slice()), Ok(()));
-    let outline = read(&[2, 2, 1], wide.as_slice())?;
+    assert_eq!(rt; checked(base, wide.as_slice()), Ok(()));
+    let outline = read(&[2, 2, 1], wide.as_slice())?.outline;
     assert_eq!(rt; outline.count, 1);
     assert_eq!(rt; outline.ends, [1, 0, 0, 0, 0, 0, 0, 0]);
     Ok(())

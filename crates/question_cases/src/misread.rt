@@ -1,9 +1,10 @@
 // Which signs are refused, and at which sign or register.
-use crate::bases::{WIDENING, sluices};
+use crate::bases::WIDENING;
 use crate::signs::{branching, drained, full};
 use questions::check as checked;
 use questions::layout::SIGN_LEN;
 use questions::refusals::Refusal;
+use registers::example::sluices;
 use registers::refusals::Refusal as RegistersRefusal;
 use std::alloc::Global;
 use std::process::Abort;
@@ -30,9 +31,7 @@ fn altered(
 ) -> Result<Result<(), Refusal>, Fail> {
     let mut signs = Vec::from_slice(heap, signs)?;
     let at = sign.wrapping_mul(SIGN_LEN).wrapping_add(place);
-    let Some(old) = signs.get_mut(at) else {
-        return Err(Fail::new("no such place"));
-    };
+    let old = signs.get_mut(at).ok_or("no such place")?;
     *old = number;
     Ok(checked(base, signs.as_slice()))
 }
@@ -86,7 +85,7 @@ fn said(heap: Global, registers: &[u64], further: &[usize]) -> Result<Result<(),
 // Every beginning of a question of three signs, and up to 115 numbers too many.
 #[test]
 fn lengths(rt: HostRuntime) -> Result<(), Fail> {
-    let base = sluices(rt.alloc())?;
+    let base = &sluices()[..];
     let mut signs = drained(rt.alloc(), 0)?;
     signs.extend_from_slice(&[0; 115])?;
     let signs = signs.as_slice();
@@ -98,7 +97,7 @@ fn lengths(rt: HostRuntime) -> Result<(), Fail> {
             58..153 => unread(3),
             _ => unread(8),
         };
-        assert_eq!(rt; checked(base.as_slice(), &signs[0..len]), expected, "{len}");
+        assert_eq!(rt; checked(base, &signs[..len]), expected, "{len}");
     }
     Ok(())
 }
@@ -117,8 +116,7 @@ fn limits(rt: HostRuntime) -> Result<(), Fail> {
 #[test]
 fn example(rt: HostRuntime) -> Result<(), Fail> {
     let heap = rt.alloc();
-    let base = sluices(heap)?;
-    let base = base.as_slice();
+    let base = &sluices()[..];
     let signs = drained(heap, 0)?;
     let signs = signs.as_slice();
     for sign in 0..3 {

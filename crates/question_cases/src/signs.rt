@@ -50,7 +50,7 @@ pub(crate) fn branching(
     let columns = [0, 1, 2, 3];
     for (register, count) in registers.iter().zip(further) {
         let count = (*count).min(4);
-        add_sign(&mut signs, *register, &[], &columns[0..count], 0)?;
+        add_sign(&mut signs, *register, &[], &columns[..count], 0)?;
     }
     Ok(signs)
 }
@@ -64,7 +64,7 @@ pub(crate) fn full(heap: Global, first: usize, further: &[usize]) -> Result<Vec<
         let columns = [last; 4];
         let count = (*count).min(4);
         let tests = [[last, 3, u64::MAX]; 4];
-        add_sign(&mut signs, last, &tests, &columns[0..count], 0)?;
+        add_sign(&mut signs, last, &tests, &columns[..count], 0)?;
     }
     Ok(signs)
 }

@@ -12,7 +12,7 @@ const WIDTHS: [usize; 8] = [4; 8];
 fn chain(rt: HostRuntime) -> Result<(), Fail> {
     let heap = rt.alloc();
     let signs = branching(heap, &[5, 4, 3, 2, 1, 0, 7, 6], &[1, 1, 1, 1, 1, 1, 1, 0])?;
-    let outline = read(&WIDTHS, signs.as_slice())?;
+    let outline = read(&WIDTHS, signs.as_slice())?.outline;
     assert_eq!(rt; outline.count, 8);
     assert_eq!(rt; outline.ends, [8; 8]);
     let list = listed(heap, &WIDTHS, signs.as_slice())?;
@@ -33,7 +33,7 @@ fn chain(rt: HostRuntime) -> Result<(), Fail> {
 fn tree(rt: HostRuntime) -> Result<(), Fail> {
     let heap = rt.alloc();
     let signs = branching(heap, &[7, 6, 5, 4, 3, 2, 1, 0], &[3, 2, 0, 0, 0, 1, 1, 0])?;
-    let outline = read(&WIDTHS, signs.as_slice())?;
+    let outline = read(&WIDTHS, signs.as_slice())?.outline;
     assert_eq!(rt; outline.count, 8);
     assert_eq!(rt; outline.ends, [8, 4, 3, 4, 5, 8, 8, 8]);
     let list = listed(heap, &WIDTHS, signs.as_slice())?;

@@ -1,21 +1,21 @@
 -- What is known of each sign of a question that is not refused: the laws that the crates above cite.
-use Rattle.std.proofs.Common.{◌≡◌, ℕ, suc, ◌+◌, ◌*◌, ◌<◌, ◌≤◌, true, false, cond, ltb, List, [], ◌∷◌, length, get_or, drop, is_some, Ok, sym, refl, ap, ◌∙◌, subst, arith}
+use Rattle.std.proofs.Common.{◌≡◌, ℕ, suc, ◌+◌, ◌*◌, ◌<◌, ◌≤◌, true, false, cond, ltb, List, [], ◌∷◌, length, get_or, drop, is_some, sym, refl, ap, ◌∙◌, subst, arith}
 use Rattle.std.proofs.lemmas.List.FromFn.{get_or-map-range_with_len, length-map-range_with_len}
 use Rattle.std.proofs.lemmas.List.{drop_more}
-use Rattle.std.proofs.lemmas.Bool.{and_parts, cond-true, lt-ltb, ltb-true}
+use Rattle.std.proofs.lemmas.Bool.{and_parts, cond-true, leb-true, lt-ltb, ltb-true}
 use Rattle.questions.specs.declared.kinds.Test.{Test}
 use Rattle.questions.specs.declared.outline.Outline.{Outline}
+use Rattle.questions.specs.declared.signs.Question.{Question as Cursor}
 use Rattle.questions.specs.declared.signs.Signs.{Signs}
 use Rattle.questions.specs.Questions.{Further, Question, and_at, ask, columns_in, further_of, no_more, questions_in, simple, tests_of}
 use Rattle.questions.specs.Meaning.{Whole}
 use Rattle.questions.specs.Reading.{count_of, end_of, ends_of, outline_of, question_of}
-use Rattle.questions.specs.Refusals.{answered, signs_refusal}
-use Rattle.questions.specs.Signs.{Follow, Reading, Stands, asked, column_fits, columns_at, number_at, read, reads, register_at, test_at, test_fits, tests_at}
-use Rattle.questions.specs.Views.{question_at, signs_in, width_of}
+use Rattle.questions.specs.Refusals.{signs_refusal}
+use Rattle.questions.specs.Signs.{Follow, Reading, Stands, There, asked, column_fits, columns_at, most_further, most_tests, number_at, read, reads, register_at, test_at, test_fits, tests_at}
+use Rattle.questions.specs.Views.{asked_at, question_at, signs_in, width_at, width_of}
 use Rattle.questions.proofs.Fitting.{Fit, each_at, fit_from}
 use Rattle.questions.proofs.Meaning.{accepted_read, read_sound}
 use Rattle.questions.proofs.Trees.{follow_bounds, stands_bounds, stands_inside, stands_read}
-use Rattle.questions.proofs.Telling.{answered_ok}
 
 -- a question that is not refused is that of all signs, and goes to no register twice
 pub whole : (widths xs : List ℕ) → is_some (signs_refusal widths xs) ≡ false → (q : Question) × Whole widths xs q (count_of widths xs) × (simple q ≡ true)
@@ -64,130 +64,159 @@ unfolding columns_in questions_in
 same_many no_more = refl
 same_many (and_at c q further) = ap suc (same_many further)
 
--- what an answer that is no refusal tells
-pub accepted : (widths xs : List ℕ) (outline : Outline) → Ok outline ≡ answered (signs_refusal widths xs) (outline_of widths xs) → (is_some (signs_refusal widths xs) ≡ false) × (outline.count ≡ count_of widths xs) × (outline.ends ≡ ends_of widths xs)
+counted : (q : Signs) → signs_in q ≡ count_of q.widths.now q.numbers.now
 unfolding outline_of
-accepted widths xs outline h =
-    let told = answered_ok _ _ _ h in
-    (ap is_some told.0, ap (λ (o : Outline). o.count) told.1, ap (λ (o : Outline). o.ends) told.1)
+counted q = ap (λ (o : Outline). o.count) q.outlined
 
--- so much of the signs in memory
-module _ (q : Signs) (s : ℕ) (l : s < signs_in q) where
-  pub sign_in : Sign q.widths.now q.numbers.now s
-  sign_in = sign_at q.widths.now q.numbers.now s q.accepted (omega (arith, q.counted))
+-- so much of a question in memory
+module _ (q : Cursor) where
+  -- the numbers of all signs, and how many columns its register has
+  abbrev numbers : List ℕ
+  numbers = q.signs.now.numbers.now
 
-  pub question_is : question_at q s ≡ ask (register_at q.numbers.now s) (tests_at q.numbers.now s) sign_in.further
+  abbrev columns : ℕ
+  columns = get_or q.signs.now.widths.now (register_at numbers q.sign) 0
+
+  pub sign_in : Sign q.signs.now.widths.now numbers q.sign
+  sign_in = sign_at q.signs.now.widths.now numbers q.sign q.signs.now.accepted (omega (arith, q.there, counted q.signs.now))
+
+  -- it is all there, and so is its register
+  pub sign_there : There numbers (q.sign + 1)
+  sign_there = sign_in.fit.there
+
+  pub register_there : register_at numbers q.sign < length q.signs.now.widths.now
+  register_there = sign_in.fit.register
+
+  pub question_is : asked_at q ≡ ask (register_at numbers q.sign) (tests_at numbers q.sign) sign_in.further
   question_is = ap question_of sign_in.is
 
-  pub columns_are : columns_in (further_of (question_at q s)) ≡ columns_at q.numbers.now s
+  width_is : width_at q ≡ columns
+  width_is = ap (width_of q.signs.now) question_is
+
+  columns_are : columns_in (further_of (asked_at q)) ≡ columns_at numbers q.sign
   columns_are =
       ap (λ (p : Question). columns_in (further_of p)) question_is
-      ∙ follow_columns q.widths.now q.numbers.now sign_in.further _ (s + 1) sign_in.end sign_in.follow
+      ∙ follow_columns q.signs.now.widths.now numbers sign_in.further _ (q.sign + 1) sign_in.end sign_in.follow
 
-  -- how many further questions, and how many columns
-  pub further_are : length (questions_in (further_of (question_at q s))) ≡ number_at q.numbers.now s 14
+  -- how many further questions
+  pub further_are : length (questions_in (further_of (asked_at q))) ≡ number_at numbers q.sign 14
   further_are =
-      same_many (further_of (question_at q s))
+      same_many (further_of (asked_at q))
       ∙ ap length columns_are
-      ∙ length-map-range_with_len (λ i. number_at q.numbers.now s (15 + i)) 0 (number_at q.numbers.now s 14)
+      ∙ length-map-range_with_len (λ i. number_at numbers q.sign (15 + i)) 0 (number_at numbers q.sign 14)
 
-  pub width_is : width_of q (question_at q s) ≡ get_or q.widths.now (register_at q.numbers.now s) 0
-  width_is = ap (width_of q) question_is
+  pub further_few : length (questions_in (further_of (asked_at q))) ≤ most_further
+  further_few = omega (arith, further_are, sign_in.fit.few_further)
 
-  -- a column of a further question
-  pub column_is : (i : ℕ) → i < number_at q.numbers.now s 14 → number_at q.numbers.now s (15 + i) ≡ get_or (columns_in (further_of (question_at q s))) i 0
-  column_is i h =
-      sym (ap (λ (cs : List ℕ). get_or cs i 0) columns_are
-      ∙ get_or-map-range_with_len (λ j. number_at q.numbers.now s (15 + j)) 0 (number_at q.numbers.now s 14) i i 0 h (omega arith))
+  module _ (i : ℕ) (l : i < length (questions_in (further_of (asked_at q)))) where
+    -- the column of one of them
+    pub column_is : number_at numbers q.sign (15 + i) ≡ get_or (columns_in (further_of (asked_at q))) i 0
+    column_is =
+        sym (ap (λ (cs : List ℕ). get_or cs i 0) columns_are
+        ∙ get_or-map-range_with_len (λ j. number_at numbers q.sign (15 + j)) 0 (number_at numbers q.sign 14) i i 0 (omega (arith, l, further_are)) (omega arith))
 
-  pub column_within : (i : ℕ) → i < number_at q.numbers.now s 14 → number_at q.numbers.now s (15 + i) < width_of q (question_at q s)
-  column_within i h =
-      let w = get_or q.widths.now (register_at q.numbers.now s) 0 in
-      let less = ltb-true (number_at q.numbers.now s (15 + i)) w (each_at (column_fits w q.numbers.now s) (number_at q.numbers.now s 14) i h sign_in.fit.columns) in
-      omega (arith, less, width_is)
+    pub column_within : number_at numbers q.sign (15 + i) < width_at q
+    column_within =
+        let fits = each_at (column_fits columns numbers q.sign) (number_at numbers q.sign 14) i (omega (arith, l, further_are)) sign_in.fit.columns in
+        omega (arith, ltb-true _ columns fits, width_is)
 
-  -- its tests
-  pub tests_are : length (tests_of (question_at q s)) ≡ number_at q.numbers.now s 1
+  -- how many tests
+  pub tests_are : length (tests_of (asked_at q)) ≡ number_at numbers q.sign 1
   tests_are =
       ap (λ (p : Question). length (tests_of p)) question_is
-      ∙ length-map-range_with_len (test_at q.numbers.now s) 0 (number_at q.numbers.now s 1)
+      ∙ length-map-range_with_len (test_at numbers q.sign) 0 (number_at numbers q.sign 1)
 
-  pub test_is : (i : ℕ) (d : Test) → i < number_at q.numbers.now s 1 → test_at q.numbers.now s i ≡ get_or (tests_of (question_at q s)) i d
-  test_is i d h =
-      sym (ap (λ (p : Question). get_or (tests_of p) i d) question_is
-      ∙ get_or-map-range_with_len (test_at q.numbers.now s) 0 (number_at q.numbers.now s 1) i i d h (omega arith))
+  pub tests_few : length (tests_of (asked_at q)) ≤ most_tests
+  tests_few = omega (arith, tests_are, sign_in.fit.few_tests)
 
-  -- a column of a test
-  pub test_within : (i : ℕ) → i < number_at q.numbers.now s 1 → number_at q.numbers.now s (2 + i * 3) < width_of q (question_at q s)
-  test_within i h =
-      let w = get_or q.widths.now (register_at q.numbers.now s) 0 in
-      let less =
-      ltb-true (number_at q.numbers.now s (2 + i * 3)) w
-      (and_parts _ _ (each_at (test_fits w q.numbers.now s) (number_at q.numbers.now s 1) i h sign_in.fit.tests)).0 in
-      omega (arith, less, width_is)
+  module _ (i : ℕ) (l : i < length (tests_of (asked_at q))) where
+    -- one of them
+    pub test_is : (d : Test) → test_at numbers q.sign i ≡ get_or (tests_of (asked_at q)) i d
+    test_is d =
+        sym (ap (λ (p : Question). get_or (tests_of p) i d) question_is
+        ∙ get_or-map-range_with_len (test_at numbers q.sign) 0 (number_at numbers q.sign 1) i i d (omega (arith, l, tests_are)) (omega arith))
+
+    test_fit : test_fits columns numbers q.sign i ≡ true
+    test_fit = each_at (test_fits columns numbers q.sign) (number_at numbers q.sign 1) i (omega (arith, l, tests_are)) sign_in.fit.tests
+
+    pub test_within : number_at numbers q.sign (2 + i * 3) < width_at q
+    test_within = omega (arith, ltb-true _ columns (and_parts _ _ test_fit).0, width_is)
+
+    pub test_kind : number_at numbers q.sign (3 + i * 3) ≤ 3
+    test_kind = leb-true _ 3 (and_parts _ _ test_fit).1
+
+-- what the functions of a question cite
+pub ruleset laws = (sign_there, register_there, question_is, further_are, further_few, column_is, column_within, tests_are, tests_few, test_is, test_within, test_kind)
 
 -- the sign behind the question that begins at one of the signs
 pub end_is : (q : Signs) (s : ℕ) → s < signs_in q → get_or q.outline.ends s 0 ≡ end_of (reads q.widths.now q.numbers.now s)
-unfolding ends_of
+unfolding ends_of outline_of
 end_is q s l =
     let w = whole q.widths.now q.numbers.now q.accepted in
-    let few : s < 8 = omega (arith, q.counted, w.1.all, w.1.short) in
-    ap (λ (es : List ℕ). get_or es s 0) q.ended
+    let few : s < 8 = omega (arith, counted q, w.1.all, w.1.short) in
+    ap (λ (o : Outline). get_or o.ends s 0) q.outlined
     ∙ get_or-map-range_with_len (λ u. cond (ltb u (count_of q.widths.now q.numbers.now)) (end_of (reads q.widths.now q.numbers.now u)) 0) 0 8 s s 0 few (omega arith)
-    ∙ cond-true _ _ _ (lt-ltb s _ (omega (arith, q.counted)))
+    ∙ cond-true _ _ _ (lt-ltb s _ (omega (arith, counted q)))
+
+pub signs_few : (q : Signs) → signs_in q ≤ 8
+signs_few q =
+    let w = whole q.widths.now q.numbers.now q.accepted in
+    omega (arith, counted q, w.1.all, w.1.short)
 
 -- the i-th further question of a sign begins at some sign, and those from it on stand from there on
-pub record Reached (q : Signs) (s i at : ℕ) : Type 0 where
+pub record Reached (q : Cursor) (i at : ℕ) : Type 0 where
   pub left : Further
   pub columns : List ℕ
   pub end : ℕ
-  pub follow : Follow q.widths.now q.numbers.now left columns at end
-  pub rest : questions_in left ≡ drop i (questions_in (further_of (question_at q s)))
-  pub behind : s < at
-  pub there : at * 19 ≤ length q.numbers.now
-  pub inside : end ≤ signs_in q
+  pub follow : Follow q.signs.now.widths.now q.signs.now.numbers.now left columns at end
+  pub rest : questions_in left ≡ drop i (questions_in (further_of (asked_at q)))
+  pub behind : q.sign < at
+  pub there : at * 19 ≤ length q.signs.now.numbers.now
+  pub inside : end ≤ signs_in q.signs.now
 
-pub reached_first : (q : Signs) (s : ℕ) → s < signs_in q → Reached q s 0 (s + 1)
-reached_first q s l =
-    let here = sign_in q s l in
+pub reached_first : (q : Cursor) → Reached q 0 (q.sign + 1)
+reached_first q =
+    let here = sign_in q in
     record {
       left = here.further;
-      columns = columns_at q.numbers.now s;
+      columns = columns_at q.signs.now.numbers.now q.sign;
       end = here.end;
       follow = here.follow;
-      rest = ap (λ (p : Question). questions_in (further_of p)) (sym (question_is q s l));
+      rest = ap (λ (p : Question). questions_in (further_of p)) (sym (question_is q));
       behind = omega arith;
       there = here.fit.there;
-      inside = omega (arith, here.inside, q.counted);
+      inside = omega (arith, here.inside, counted q.signs.now);
     }
 
 -- the question there
-pub record Here (q : Signs) (s i at : ℕ) : Type 0 where
+pub record Here (q : Cursor) (i at : ℕ) : Type 0 where
   pub question : Question
   pub end : ℕ
-  pub is : reads q.widths.now q.numbers.now at ≡ read question end
-  pub ith : question ≡ get_or (questions_in (further_of (question_at q s))) i (ask 0 [] no_more)
-  pub less : at < signs_in q
-  pub next : Reached q s (i + 1) end
+  pub is : reads q.signs.now.widths.now q.signs.now.numbers.now at ≡ read question end
+  pub ith : question ≡ get_or (questions_in (further_of (asked_at q))) i (ask 0 [] no_more)
+  pub less : at < signs_in q.signs.now
+  pub few : at < 8
+  pub next : Reached q (i + 1) end
 
-pub reached_here : (q : Signs) (s i at : ℕ) → i < length (questions_in (further_of (question_at q s))) → Reached q s i at → Here q s i at
+pub reached_here : (q : Cursor) (i at : ℕ) → i < length (questions_in (further_of (asked_at q))) → Reached q i at → Here q i at
 unfolding Follow questions_in
-reached_here q s i at l r = go r.left r.follow (r.rest ∙ drop_more (questions_in (further_of (question_at q s))) i (ask 0 [] no_more) l)
+reached_here q i at l r = go r.left r.follow (r.rest ∙ drop_more (questions_in (further_of (asked_at q))) i (ask 0 [] no_more) l)
   where
-    go : (left : Further) → Follow q.widths.now q.numbers.now left r.columns at r.end → questions_in left ≡ get_or (questions_in (further_of (question_at q s))) i (ask 0 [] no_more) ∷ drop (i + 1) (questions_in (further_of (question_at q s))) → Here q s i at
-    go no_more f e = let z : ◌≡◌ {A = ℕ} 0 1 = cc in absurd (omega arith)
+    go : (left : Further) → Follow q.signs.now.widths.now q.signs.now.numbers.now left r.columns at r.end → questions_in left ≡ get_or (questions_in (further_of (asked_at q))) i (ask 0 [] no_more) ∷ drop (i + 1) (questions_in (further_of (asked_at q))) → Here q i at
+    go no_more f e = cc
     go (and_at c p left) f e =
-        let w = whole q.widths.now q.numbers.now q.accepted in
-        let bounds = stands_bounds q.widths.now q.numbers.now p at f.0 f.3 in
-        let later = follow_bounds q.widths.now q.numbers.now left f.1 f.0 r.end bounds.1 f.4 in
+        let w = whole q.signs.now.widths.now q.signs.now.numbers.now q.signs.now.accepted in
+        let bounds = stands_bounds q.signs.now.widths.now q.signs.now.numbers.now p at f.0 f.3 in
+        let later = follow_bounds q.signs.now.widths.now q.signs.now.numbers.now left f.1 f.0 r.end bounds.1 f.4 in
         let inside = r.inside in
         let behind = r.behind in
         record {
           question = p;
           end = f.0;
-          is = stands_read q.widths.now q.numbers.now w.1.short p at f.0 f.3;
+          is = stands_read q.signs.now.widths.now q.signs.now.numbers.now w.1.short p at f.0 f.3;
           ith = cc;
           less = omega arith;
+          few = omega (arith, signs_few q.signs.now);
           next = record {
             left = left;
             columns = f.1;
@@ -201,22 +230,17 @@ reached_here q s i at l r = go r.left r.follow (r.rest ∙ drop_more (questions_
         }
 
 -- the end of that question is where the next begins
-pub reached_more : (q : Signs) (s i at : ℕ) → i < length (questions_in (further_of (question_at q s))) → Reached q s i at → Reached q s (i + 1) (get_or q.outline.ends at 0)
-reached_more q s i at l r =
-    let here = reached_here q s i at l r in
-    let end : here.end ≡ get_or q.outline.ends at 0 = sym (end_is q at here.less ∙ ap end_of here.is) in
-    subst (Reached q s (i + 1)) end here.next
-
-pub signs_few : (q : Signs) → signs_in q ≤ 8
-signs_few q =
-    let w = whole q.widths.now q.numbers.now q.accepted in
-    omega (arith, q.counted, w.1.all, w.1.short)
+pub reached_more : (q : Cursor) (i at : ℕ) → i < length (questions_in (further_of (asked_at q))) → Reached q i at → Reached q (i + 1) (get_or q.signs.now.outline.ends at 0)
+reached_more q i at l r =
+    let here = reached_here q i at l r in
+    let end : here.end ≡ get_or q.signs.now.outline.ends at 0 = sym (end_is q.signs.now at here.less ∙ ap end_of here.is) in
+    subst (Reached q (i + 1)) end here.next
 
 -- the first sign is the whole question: it is there, and goes to no register twice
 pub first_there : (q : Signs) → 0 < signs_in q
 first_there q =
     let w = whole q.widths.now q.numbers.now q.accepted in
-    omega (arith, q.counted, (stands_bounds q.widths.now q.numbers.now w.0 0 (count_of q.widths.now q.numbers.now) w.1.stands).0)
+    omega (arith, counted q, (stands_bounds q.widths.now q.numbers.now w.0 0 (count_of q.widths.now q.numbers.now) w.1.stands).0)
 
 pub first_simple : (q : Signs) → simple (question_at q 0) ≡ true
 first_simple q =

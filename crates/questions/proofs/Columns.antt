@@ -1,49 +1,60 @@
 -- The columns of registers that are not refused, as a survey tells them; and the refusal put together.
-use Rattle.std.proofs.Common.{◌≡◌, ℕ, ◌≤◌, List, map, length, get_or, take, Some, None, Ok, Err, Option, Result, ap, ◌∙◌, arith}
+use Rattle.std.proofs.Common.{◌≡◌, ℕ, ◌≤◌, false, List, map, length, get_or, take, is_some, Some, None, Option, sym, refl, ap, ◌∙◌, ap₂, arith}
 use Rattle.std.specs.List.{range_with_len}
-use Rattle.std.specs.Result.{result_and}
 use Rattle.std.proofs.lemmas.List.FromFn.{fill_by_all, get_or-map-range_with_len, length-map-range_with_len, take-map-range_with_len}
 use Rattle.registers.specs.declared.layout.Directory.{Directory}
 use Rattle.registers.specs.declared.refusals.Refusal.{Refusal as RegistersRefusal}
-use Rattle.registers.specs.Layout.{columns_at, columns_of, count_of, register_place}
-use Rattle.registers.specs.Refusals.{answered as registers_answered, or_else, refusal}
-use Rattle.registers.specs.Survey.{directory_of, no_section}
-use Rattle.registers.proofs.Checking.{enough_all, surveyed_turn}
-use Rattle.registers.proofs.Finding.{sound_parts}
-use Rattle.registers.proofs.Limits.{length_base, limits_hold}
-use Rattle.registers.proofs.Placing.{enough_count}
+use Rattle.registers.specs.declared.registers.Registers.{Registers as Surveyed}
+use Rattle.registers.specs.Layout.{columns_at, columns_of, register_place}
+use Rattle.registers.specs.Refusals.{or_else, refusal}
+use Rattle.registers.specs.Survey.{no_section}
+use Rattle.registers.proofs.Placing.{count_few, misfit_none, there, there_count}
 use Rattle.questions.specs.declared.refusals.Refusal.{Refusal}
 use Rattle.questions.specs.declared.refusals.Refusal.TheVariants.{Registers}
+use Rattle.questions.specs.declared.signs.Signs.{Signs}
 use Rattle.questions.specs.Reading.{widths_of}
-use Rattle.questions.specs.Refusals.{answered, of_registers}
+use Rattle.questions.specs.Refusals.{of_registers, refusal_of, signs_refusal}
 
 pub length_widths : (directory : Directory) → length (widths_of directory) ≡ 8
 unfolding widths_of
 length_widths directory = length-map-range_with_len (λ t. (get_or directory.sections t no_section).columns) 0 8
 
-module _ (xs : List ℕ) (directory : Directory) (sound : refusal xs ≡ None) (surveyed : directory ≡ directory_of xs) where
-  pub count_is : directory.count ≡ count_of xs
-  count_is = enough_count xs directory 65544 32768 (enough_all xs directory (sound_parts xs sound).0 surveyed)
+pub widths_few : (r : Surveyed) → r.directory.count ≤ 8
+widths_few r = omega (arith, there_count r, count_few r.base.now (misfit_none r.base.now r.fits).0)
 
-  pub count_few : directory.count ≤ 8
-  count_few = omega (arith, count_is, length_base xs, (limits_hold xs sound).few_registers)
-
-  pub widths_are : take directory.count (widths_of directory) ≡ columns_of xs
-  unfolding widths_of columns_of
-  widths_are =
-      let f : ℕ → ℕ = λ t. (get_or directory.sections t no_section).columns in
-      take-map-range_with_len f 0 8 directory.count count_few
-      ∙ fill_by_all (λ t. columns_at xs (register_place xs t)) (map f (range_with_len 0 directory.count)) directory.count 0 (length-map-range_with_len f 0 directory.count)
-      (λ t l. get_or-map-range_with_len f 0 directory.count t t 0 l (omega arith) ∙ (surveyed_turn xs directory t sound surveyed l).0.columns)
-      ∙ ap (λ (n : ℕ). map (λ t. columns_at xs (register_place xs t)) (range_with_len 0 n)) count_is
+pub widths_are : (r : Surveyed) → take r.directory.count (widths_of r.directory) ≡ columns_of r.base.now
+unfolding widths_of columns_of
+widths_are r =
+    let f : ℕ → ℕ = λ t. (get_or r.directory.sections t no_section).columns in
+    take-map-range_with_len f 0 8 r.directory.count (widths_few r)
+    ∙ fill_by_all (λ t. columns_at r.base.now (register_place r.base.now t)) (map f (range_with_len 0 r.directory.count)) r.directory.count 0 (length-map-range_with_len f 0 r.directory.count)
+    (λ t l. get_or-map-range_with_len f 0 r.directory.count t t 0 l (omega arith) ∙ (there r t (get_or r.directory.sections t no_section) l refl).0.columns)
+    ∙ ap (λ (n : ℕ). map (λ t. columns_at r.base.now (register_place r.base.now t)) (range_with_len 0 n)) (there_count r)
 
 -- the refusal of registers comes first
-pub told_first : {A B : Type 0} (o : Option RegistersRefusal) (p : Option Refusal) (e : RegistersRefusal) (x : A) (y : B) → Err e ≡ registers_answered o x → Err (Registers e) ≡ answered (or_else (of_registers o) p) y
-told_first None p e x y h = let z : ◌≡◌ {A = ℕ} 0 1 = cc in absurd (omega arith)
-told_first (Some r) p e x y h = cc
+pub refused_first : (base xs : List ℕ) (e : RegistersRefusal) → refusal base ≡ Some e → refusal_of base xs ≡ Some (Registers e)
+unfolding refusal_of
+refused_first base xs e h = ap (λ (o : Option RegistersRefusal). or_else (of_registers o) (signs_refusal (columns_of base) xs)) h
 
--- and then that of signs
-pub told_second : {A B : Type 0} (o p : Option Refusal) (r : Result A Refusal) (x : A) (y : B) → o ≡ None → r ≡ answered p x → result_and r (Ok y) ≡ answered (or_else o p) y
-told_second {A = A} None None r x y h e = ap (λ (a : Result A Refusal). result_and a (Ok y)) e
-told_second {A = A} None (Some f) r x y h e = ap (λ (a : Result A Refusal). result_and a (Ok y)) e
-told_second (Some f) p r x y h e = let z : ◌≡◌ {A = ℕ} 0 1 = cc in absurd (omega arith)
+-- and then that of signs: what `read` answers tells it
+read_none : (widths xs : List ℕ) (s : Signs) → s.widths.now ≡ widths → s.numbers.now ≡ xs → signs_refusal widths xs ≡ None
+read_none widths xs s w n = none _ (ap₂ (λ (ws ns : List ℕ). is_some (signs_refusal ws ns)) (sym w) (sym n) ∙ s.accepted)
+  where
+    none : (o : Option Refusal) → is_some o ≡ false → o ≡ None
+    none None h = refl
+    none (Some e) h = cc
+
+pub accepted_by : (r : Surveyed) (base xs : List ℕ) (widths : List ℕ) (s : Signs) → r.base.now ≡ base → refusal base ≡ None → widths ≡ take r.directory.count (widths_of r.directory) → (s.widths.now ≡ widths) × (s.numbers.now ≡ xs) → refusal_of base xs ≡ None
+unfolding refusal_of
+accepted_by r base xs widths s is none w told =
+    ap₂ (λ (o : Option RegistersRefusal) (ws : List ℕ). or_else (of_registers o) (signs_refusal ws xs)) none (ap columns_of (sym is) ∙ sym (widths_are r))
+    ∙ read_none _ xs s (told.0 ∙ w) told.1
+
+pub refused_by : (r : Surveyed) (base xs : List ℕ) (widths : List ℕ) (e : Refusal) → r.base.now ≡ base → refusal base ≡ None → widths ≡ take r.directory.count (widths_of r.directory) → signs_refusal widths xs ≡ Some e → refusal_of base xs ≡ Some e
+unfolding refusal_of
+refused_by r base xs widths e is none w told =
+    ap₂ (λ (o : Option RegistersRefusal) (ws : List ℕ). or_else (of_registers o) (signs_refusal ws xs)) none (ap columns_of (sym is) ∙ sym (widths_are r) ∙ sym w)
+    ∙ told
+
+pub columns_by : (r : Surveyed) (base widths : List ℕ) → r.base.now ≡ base → widths ≡ take r.directory.count (widths_of r.directory) → widths ≡ columns_of base
+columns_by r base widths is w = w ∙ widths_are r ∙ ap columns_of is

@@ -10,7 +10,7 @@ use Rattle.questions.specs.Signs.{Reading, read, stuck, columns_at, reads, reads
 pub then_read : {A B : Type 0} (r : Reading A) (go : A → ℕ → Reading B) (b : B) (e : ℕ) → then r go ≡ read b e → (a : A) × (m : ℕ) × (r ≡ read a m) × (go a m ≡ read b e)
 unfolding then
 then_read (read a m) go b e h = (a, m, refl, h)
-then_read (stuck s) go b e h = let z : ◌≡◌ {A = ℕ} 0 1 = cc in absurd (omega arith)
+then_read (stuck s) go b e h = cc
 
 -- reading that stopped did so at once, or where it went on
 pub then_stuck : {A B : Type 0} (r : Reading A) (go : A → ℕ → Reading B) (p : ℕ) → then r go ≡ stuck p → (r ≡ stuck p) ⊎ ((a : A) × (m : ℕ) × (r ≡ read a m) × (go a m ≡ stuck p))
@@ -27,7 +27,7 @@ same_then (stuck s) f g h = refl
 -- a question that was read, by its sign
 pub cond_read : {A : Type 0} (b : Bool) (r : Reading A) (s : ℕ) (a : A) (e : ℕ) → cond b r (stuck s) ≡ read a e → (b ≡ true) × (r ≡ read a e)
 cond_read true r s a e h = (refl, h)
-cond_read false r s a e h = let z : ◌≡◌ {A = ℕ} 0 1 = cc in absurd (omega arith)
+cond_read false r s a e h = cc
 
 module _ (go : ℕ → Reading Question) (widths xs : List ℕ) where
   pub sign_read : (s t : ℕ) (tests : List Test) (further : Further) (e : ℕ) → reads_sign go widths xs s ≡ read (ask t tests further) e → (sign_fits widths xs s ≡ true) × (t ≡ register_at xs s) × (tests ≡ tests_at xs s) × (reads_further go (columns_at xs s) (s + 1) ≡ read further e)
@@ -49,12 +49,11 @@ module _ (go : ℕ → Reading Question) where
       let first = then_read (go s) _ no_more e h in
       let rest = then_read (reads_further go columns first.1) _ no_more e first.3 in
       let last = rest.3 in
-      let z : ◌≡◌ {A = ℕ} 0 1 = cc in
-      absurd (omega arith)
+      cc
 
   pub further_read : (columns : List ℕ) (s c : ℕ) (q : Question) (further : Further) (e : ℕ) → reads_further go columns s ≡ read (and_at c q further) e → (m : ℕ) × (rest : List ℕ) × (columns ≡ c ∷ rest) × (go s ≡ read q m) × (reads_further go rest m ≡ read further e)
   unfolding reads_further
-  further_read [] s c q further e h = let z : ◌≡◌ {A = ℕ} 0 1 = cc in absurd (omega arith)
+  further_read [] s c q further e h = cc
   further_read (d ∷ columns) s c q further e h =
       let first = then_read (go s) _ (and_at c q further) e h in
       let rest = then_read (reads_further go columns first.1) _ (and_at c q further) e first.3 in
@@ -95,7 +94,7 @@ module _ (go : ℕ → Reading Question) where
 module _ (widths xs : List ℕ) where
   deep_grows : (n s : ℕ) (q : Question) (e : ℕ) → reads_deep n widths xs s ≡ read q e → s < e
   unfolding reads_deep
-  deep_grows zero s q e h = let z : ◌≡◌ {A = ℕ} 0 1 = cc in absurd (omega arith)
+  deep_grows zero s q e h = cc
   deep_grows (suc n) s (ask t tests further) e h =
       let parts = sign_read (reads_deep n widths xs) widths xs s t tests further e h in
       let behind = further_grows (reads_deep n widths xs) (deep_grows n) further (columns_at xs s) (s + 1) e parts.3 in

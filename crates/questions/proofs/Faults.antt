@@ -25,7 +25,7 @@ module _ (widths xs : List ℕ) where
   -- further questions stop where one of them does
   stopped_further : (n from : ℕ) → ((u p : ℕ) → from ≤ u → reads_deep n widths xs u ≡ stuck p → Stopped widths xs u p) → (columns : List ℕ) (s p : ℕ) → from ≤ s → reads_further (reads_deep n widths xs) columns s ≡ stuck p → Stopped widths xs s p
   unfolding reads_further
-  stopped_further n from each [] s p l h = let z : ◌≡◌ {A = ℕ} 0 1 = cc in absurd (omega arith)
+  stopped_further n from each [] s p l h = cc
   stopped_further n from each (c ∷ columns) s p l h =
       ⊎_elim
       (λ first. each s p l first)
@@ -36,7 +36,7 @@ module _ (widths xs : List ℕ) where
       (λ later.
       stopped_behind s went.1 p (omega arith) (λ u a b. stands_fits widths xs went.0 s went.1 u stands a b)
       (stopped_further n from each columns went.1 p (omega arith) later))
-      (λ done. let end = done.3 in let z : ◌≡◌ {A = ℕ} 0 1 = cc in absurd (omega arith))
+      (λ done. let end = done.3 in cc)
       (then_stuck (reads_further (reads_deep n widths xs) columns went.1) _ p went.3))
       (then_stuck (reads_deep n widths xs s) _ p h)
 
@@ -59,7 +59,7 @@ module _ (widths xs : List ℕ) where
       stopped_behind s (s + 1) p (omega arith)
       (λ u a b. let same : u ≡ s = omega arith in ap (sign_fits widths xs) same ∙ fits)
       (stopped_further n (s + 1) (λ u q a. deep_stops n u q (omega arith)) (columns_at xs s) (s + 1) p (omega arith) behind))
-      (λ done. let end = done.3 in let z : ◌≡◌ {A = ℕ} 0 1 = cc in absurd (omega arith))
+      (λ done. let end = done.3 in cc)
       (then_stuck (reads_further (reads_deep n widths xs) (columns_at xs s) (s + 1)) _ p (sym (cond-true _ _ _ fits) ∙ h)))
       (λ unfit.
       let stop = sym (cond-false _ _ _ unfit) ∙ h in

@@ -1,25 +1,22 @@
 -- A test that holds of all numbers below some, and what is known of a sign that can be read.
-use Rattle.std.proofs.Common.{◌≡◌, ℕ, zero, suc, ◌+◌, ◌*◌, ◌<◌, ◌≤◌, Bool, true, false, List, length, get_or, refl, ⊎_elim, add-one, arith}
-use Rattle.std.proofs.lemmas.Bool.{and_from, and_left, and_parts, and_right, cases_eq, leb-true, ltb-true}
+use Rattle.std.proofs.Common.{◌≡◌, ℕ, zero, suc, ◌+◌, ◌*◌, ◌<◌, ◌≤◌, Bool, true, ◌&&◌, List, [], ◌∷◌, map, length, get_or, sym, refl, ap, ◌∙◌, ap₂, ⊎_elim, arith}
+use Rattle.std.specs.List.{list_all, range_with_len}
+use Rattle.std.proofs.Math.Bool.{and-true}
+use Rattle.std.proofs.lemmas.Bool.{and_parts, cases_eq, leb-true, ltb-true}
+use Rattle.std.proofs.lemmas.List.Folds.{list_all-append, list_all-map}
+use Rattle.std.proofs.lemmas.List.FromFn.{map-range_with_len_more}
 use Rattle.questions.specs.Signs.{column_fits, each_below, number_at, parts_fit, register_at, sign_fits, test_fits}
 
-pub each_none : (f : ℕ → Bool) → each_below f 0 ≡ true
+pub each_counted : (f : ℕ → Bool) (n : ℕ) → list_all f (range_with_len 0 n) ≡ each_below f n
 unfolding each_below
-each_none f = refl
-
-pub each_more : (f : ℕ → Bool) (i : ℕ) → each_below f i ≡ true → f i ≡ true → each_below f (i + 1) ≡ true
-unfolding each_below
-each_more f i e h = rw add-one (and_from _ _ e h)
-
--- one that fails is enough
-pub each_fails : (f : ℕ → Bool) (n i : ℕ) → i < n → f i ≡ false → each_below f n ≡ false
-unfolding each_below
-each_fails f zero i l h = absurd (omega arith)
-each_fails f (suc n) i l h =
-    ⊎_elim
-    (λ same. let last : f n ≡ false = rw same at h in and_right _ _ last)
-    (λ other. and_left _ _ (each_fails f n i (omega arith) h))
-    (cases_eq i n)
+each_counted f zero = refl
+each_counted f (suc n) =
+    let more : suc n ≡ n + 1 = omega arith in
+    sym (list_all-map (λ b. b) f (range_with_len 0 (suc n)))
+    ∙ ap (λ (m : ℕ). list_all (λ b. b) (map f (range_with_len 0 m))) more
+    ∙ ap (list_all (λ b. b)) (map-range_with_len_more f 0 n n (omega arith))
+    ∙ list_all-append (λ b. b) (map f (range_with_len 0 n)) (f n ∷ [])
+    ∙ ap₂ ◌&&◌ (list_all-map (λ b. b) f (range_with_len 0 n) ∙ each_counted f n) (and-true (f n))
 
 -- what holds of all holds of each
 pub each_at : (f : ℕ → Bool) (n i : ℕ) → i < n → each_below f n ≡ true → f i ≡ true

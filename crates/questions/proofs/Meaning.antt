@@ -1,12 +1,13 @@
 -- What is read is what the signs stand for; a register that comes again is one to which a question goes twice.
-use Rattle.std.proofs.Common.{◌≡◌, ℕ, ◌*◌, Bool, true, false, cond, not, ◌&&◌, ◌||◌, eqb, leb, List, [], ◌∷◌, ◌++◌, length, is_some, Some, None, Option, Result, sym, refl, ap, ◌∙◌, subst, ap₂, inl, inr, ⊎_elim, arith}
+use Rattle.std.proofs.Common.{◌≡◌, ℕ, ◌*◌, Bool, true, false, cond, not, ◌&&◌, ◌||◌, eqb, leb, List, [], ◌∷◌, ◌++◌, length, is_some, Some, None, Option, sym, refl, ap, ◌∙◌, subst, ap₂, inl, inr, ⊎_elim, arith}
+use Rattle.std.proofs.Math.Bool.{or_assoc}
 use Rattle.std.proofs.lemmas.Bool.{cases_lt, cond-false, cond-true, eq-eqb, eqb-true, le-leb, leb-true, lt-leb}
 use Rattle.std.proofs.lemmas.Bool.Decides.{nat_tests}
 use Rattle.questions.specs.declared.refusals.Refusal.{Refusal}
 use Rattle.questions.specs.declared.refusals.Refusal.TheVariants.{Twice}
-use Rattle.questions.specs.Meaning.{Fault, Means, ReadExactly, SimpleExactly, Whole, refusal_in}
+use Rattle.questions.specs.Meaning.{Fault, Means, ReadExactly, SimpleExactly, Whole}
 use Rattle.questions.specs.Questions.{Question, distinct, first_again, goes_to, has, simple}
-use Rattle.questions.specs.Refusals.{answered, refused_at, refused, signs_refusal}
+use Rattle.questions.specs.Refusals.{refused_at, refused, signs_refusal}
 use Rattle.questions.specs.Signs.{Reading, Short, Stands, asked, most_signs, read, reads, sign_len, stuck, then}
 use Rattle.questions.proofs.Deep.{cond_read, then_read, then_stuck}
 use Rattle.questions.proofs.Faults.{deep_stops}
@@ -47,11 +48,7 @@ none_of before (n ∷ ns) = not (has before n) && none_of before ns
 has_more : (ms : List ℕ) (m n : ℕ) → has (ms ++ m ∷ []) n ≡ (has ms n || eqb n m)
 unfolding has
 has_more [] m n = grind (arith, nat_tests)
-has_more (k ∷ ms) m n = ap (λ (b : Bool). eqb k n || b) (has_more ms m n) ∙ or_assoc (eqb k n) (has ms n) (eqb n m)
-  where
-    or_assoc : (a b c : Bool) → (a || (b || c)) ≡ ((a || b) || c)
-    or_assoc true b c = refl
-    or_assoc false b c = refl
+has_more (k ∷ ms) m n = ap (λ (b : Bool). eqb k n || b) (has_more ms m n) ∙ sym (or_assoc (eqb k n) (has ms n) (eqb n m))
 
 regroup : (a b x h : Bool) → (not (a || b) && (x && not h)) ≡ ((not a && x) && not (b || h))
 regroup true b x h = refl
@@ -99,11 +96,11 @@ accepted_read widths xs h = at (asked widths xs) refl h
   where
     once : (o : Option ℕ) → is_some (refused_at Twice o) ≡ false → o ≡ None
     once None h = refl
-    once (Some t) h = let z : ◌≡◌ {A = ℕ} 0 1 = cc in absurd (omega arith)
+    once (Some t) h = cc
 
     at : (r : Reading Question) → asked widths xs ≡ r → is_some (refused r) ≡ false → (q : Question) × (e : ℕ) × (asked widths xs ≡ read q e) × (simple q ≡ true)
     at (read q e) k h = (q, e, k, simple_once q (once (first_again [] (goes_to q)) h))
-    at (stuck s) k h = let z : ◌≡◌ {A = ℕ} 0 1 = cc in absurd (omega arith)
+    at (stuck s) k h = cc
 
 -- where reading stopped
 asked_fault : (widths xs : List ℕ) (s : ℕ) → Short xs → asked widths xs ≡ stuck s → Fault widths xs s
@@ -123,7 +120,7 @@ asked_fault widths xs s short h =
     (then_stuck (reads widths xs 0) _ s (sym (cond-true _ _ _ (le-leb (length xs) (most_signs * sign_len) short)) ∙ h))
   where
     left_over : (b : Bool) (q : Question) (e s : ℕ) → cond b (read q e) (stuck e) ≡ stuck s → e ≡ s
-    left_over true q e s h = let z : ◌≡◌ {A = ℕ} 0 1 = cc in absurd (omega arith)
+    left_over true q e s h = cc
     left_over false q e s h = cc
 
 asked_long : (widths xs : List ℕ) (s : ℕ) → (Short xs → ⊥) → asked widths xs ≡ stuck s → s ≡ most_signs
@@ -138,7 +135,7 @@ asked_long widths xs s long h =
 means_read : (widths xs : List ℕ) (r : Reading Question) → asked widths xs ≡ r → Means widths xs (refused r)
 means_read widths xs (stuck s) h =
     record {
-      none = λ q e w. let found = read_complete widths xs q e w in let z : ◌≡◌ {A = ℕ} 0 1 = cc in omega arith;
+      none = λ q e w. let found = read_complete widths xs q e w in cc;
       fault = λ short. asked_fault widths xs s short h;
       long = λ more. asked_long widths xs s more h;
     }
@@ -148,11 +145,6 @@ means_read widths xs (read q e) h = at (first_again [] (goes_to q)) refl
     at None k = (q, e, read_sound widths xs q e h, simple_once q k)
     at (Some t) k = (q, e, read_sound widths xs q e h, k)
 
-pub means : {A : Type 0} (widths xs : List ℕ) (r : Result A Refusal) (a : A) → r ≡ answered (signs_refusal widths xs) a → Means widths xs (refusal_in r)
+pub means : (widths xs : List ℕ) (o : Option Refusal) → signs_refusal widths xs ≡ o → Means widths xs o
 unfolding signs_refusal
-means widths xs r a h =
-    subst (Means widths xs) (sym (ap refusal_in h ∙ same (refused (asked widths xs)))) (means_read widths xs (asked widths xs) refl)
-  where
-    same : (o : Option Refusal) → refusal_in (answered o a) ≡ o
-    same None = refl
-    same (Some e) = refl
+means widths xs o h = subst (Means widths xs) h (means_read widths xs (asked widths xs) refl)

@@ -14,7 +14,7 @@ use Rattle.questions.proofs.Trees.{read_stands, stands_bounds}
 -- what an answer tells of what was read
 pub outcome_ok : {A : Type 0} (r : Reading A) (e : ℕ) → Ok e ≡ outcome r → (a : A) × (r ≡ read a e)
 outcome_ok (read a m) e h = let same : m ≡ e = cc in (a, ap (λ (n : ℕ). read a n) same)
-outcome_ok (stuck s) e h = let z : ◌≡◌ {A = ℕ} 0 1 = cc in absurd (omega arith)
+outcome_ok (stuck s) e h = cc
 
 -- reading that went on ends where its last part ends
 outcome_then : {A B : Type 0} (r : Reading A) (go : A → ℕ → Reading B) (on : ℕ → Result ℕ Refusal) → ((a : A) (m : ℕ) → outcome (go a m) ≡ on m) → outcome (then r go) ≡ next (outcome r) on
@@ -46,7 +46,7 @@ next_bounds s e (Ok m) on h first rest =
     let a = first m refl in
     let b = rest m a.1 h in
     (omega arith, b.1)
-next_bounds s e (Err r) on h first rest = let z : ◌≡◌ {A = ℕ} 0 1 = cc in absurd (omega arith)
+next_bounds s e (Err r) on h first rest = cc
 
 -- an answer that goes on where the first question was read, and where it was not
 pub next_ok : (r a : Result ℕ Refusal) (on : ℕ → Result ℕ Refusal) (m : ℕ) → Ok m ≡ r → a ≡ on m → a ≡ next r on

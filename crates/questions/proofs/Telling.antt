@@ -1,5 +1,5 @@
 -- What reading tells of all signs: the refusal, or where the questions end.
-use Rattle.std.proofs.Common.{◌≡◌, ℕ, ◌*◌, ◌<◌, cond, eqb, ltb, List, [], map, length, replicate, Some, None, Ok, Err, Option, sym, refl, ap, ◌∙◌, ap₂, inr, ⊎_elim, arith}
+use Rattle.std.proofs.Common.{◌≡◌, ℕ, ◌*◌, ◌<◌, cond, eqb, ltb, List, [], map, length, replicate, Some, Ok, Err, Option, sym, refl, ap, ◌∙◌, ap₂, inr, ⊎_elim, arith}
 use Rattle.std.specs.List.{range_with_len}
 use Rattle.std.proofs.lemmas.List.FromFn.{fill_by_all}
 use Rattle.std.proofs.lemmas.List.{get_or-replicate}
@@ -8,29 +8,24 @@ use Rattle.questions.specs.declared.refusals.Refusal.{Refusal}
 use Rattle.questions.specs.declared.refusals.Refusal.TheVariants.{Signs, Twice}
 use Rattle.questions.specs.Questions.{Question, first_again, goes_to}
 use Rattle.questions.specs.Reading.{Noted, count_of, end_of, ends_of, outcome, outline_of}
-use Rattle.questions.specs.Refusals.{answered, refused_at, refused, signs_refusal}
+use Rattle.questions.specs.Refusals.{refused_at, refused, signs_refusal}
 use Rattle.questions.specs.Signs.{asked, read, Reading, reads, register_at, Short, stuck, then}
 use Rattle.questions.proofs.Meaning.{read_complete}
 use Rattle.questions.proofs.Passing.{outcome_ok}
 use Rattle.questions.proofs.Trees.{read_stands, stands_goes}
 
--- an answer is of signs that are not refused
-pub answered_ok : {A : Type 0} (o : Option Refusal) (x y : A) → Ok x ≡ answered o y → (o ≡ None) × (x ≡ y)
-answered_ok None x y h = (refl, cc)
-answered_ok (Some e) x y h = let z : ◌≡◌ {A = ℕ} 0 1 = cc in absurd (omega arith)
-
 outcome_err : {A : Type 0} (r : Reading A) (x : Refusal) → Err x ≡ outcome r → (s : ℕ) × (r ≡ stuck s) × (Signs s ≡ x)
-outcome_err (read a m) x h = let z : ◌≡◌ {A = ℕ} 0 1 = cc in absurd (omega arith)
+outcome_err (read a m) x h = cc
 outcome_err (stuck s) x h = (s, refl, cc)
 
-module _ {A : Type 0} (widths xs : List ℕ) (a : A) where
+module _ (widths xs : List ℕ) where
   -- signs that cannot be read
-  told_stuck : (s : ℕ) → asked widths xs ≡ stuck s → Err (Signs s) ≡ answered (signs_refusal widths xs) a
+  told_stuck : (s : ℕ) → asked widths xs ≡ stuck s → signs_refusal widths xs ≡ Some (Signs s)
   unfolding signs_refusal
-  told_stuck s h = sym (ap (λ (r : Reading Question). answered (refused r) a) h)
+  told_stuck s h = ap refused h
 
   -- more than eight
-  pub told_long : 8 * 19 < length xs → Err (Signs 8) ≡ answered (signs_refusal widths xs) a
+  pub told_long : 8 * 19 < length xs → signs_refusal widths xs ≡ Some (Signs 8)
   unfolding asked
   told_long h = told_stuck 8 (cond-false _ _ _ (lt-leb (length xs) (8 * 19) h))
 
@@ -44,14 +39,14 @@ module _ {A : Type 0} (widths xs : List ℕ) (a : A) where
     asked_then r h = asked_short ∙ ap (λ (x : Reading Question). then x (λ q e. cond (eqb (e * 19) (length xs)) (read q e) (stuck e))) h
 
     -- one that cannot be read
-    pub told_unread : (x : Refusal) → Err x ≡ outcome (reads widths xs 0) → Err x ≡ answered (signs_refusal widths xs) a
+    pub told_unread : (x : Refusal) → Err x ≡ outcome (reads widths xs 0) → signs_refusal widths xs ≡ Some x
     unfolding then
     told_unread x h =
         let at = outcome_err (reads widths xs 0) x h in
-        ap Err (sym at.2) ∙ told_stuck at.0 (asked_then (stuck at.0) at.1)
+        told_stuck at.0 (asked_then (stuck at.0) at.1) ∙ ap Some at.2
 
     -- a question, and signs left over
-    pub told_left : (e : ℕ) → Ok e ≡ outcome (reads widths xs 0) → (e * 19 ≡ length xs → ⊥) → Err (Signs e) ≡ answered (signs_refusal widths xs) a
+    pub told_left : (e : ℕ) → Ok e ≡ outcome (reads widths xs 0) → (e * 19 ≡ length xs → ⊥) → signs_refusal widths xs ≡ Some (Signs e)
     unfolding then
     told_left e h n =
         let got = outcome_ok (reads widths xs 0) e h in
@@ -67,27 +62,19 @@ module _ {A : Type 0} (widths xs : List ℕ) (a : A) where
           stands_goes widths xs got.0 0 e e stands (omega arith),
         )
 
-    told_whole : (e : ℕ) (o : Option ℕ) → Ok e ≡ outcome (reads widths xs 0) → e * 19 ≡ length xs → o ≡ first_again [] (map (register_at xs) (range_with_len 0 e)) → answered (refused_at Twice o) a ≡ answered (signs_refusal widths xs) a
+    -- the register to which it goes twice, if it does
+    pub told_whole : (e : ℕ) (o : Option ℕ) → Ok e ≡ outcome (reads widths xs 0) → e * 19 ≡ length xs → o ≡ first_again [] (map (register_at xs) (range_with_len 0 e)) → signs_refusal widths xs ≡ refused_at Twice o
     unfolding signs_refusal
     told_whole e o h n k =
         let got = asked_all e h n in
-        ap (λ (x : Option ℕ). answered (refused_at Twice x) a) (k ∙ ap (first_again []) (sym got.2))
-        ∙ sym (ap (λ (r : Reading Question). answered (refused r) a) got.1)
-
-    -- it goes to a register twice
-    pub told_twice : (e t : ℕ) → Ok e ≡ outcome (reads widths xs 0) → e * 19 ≡ length xs → Some t ≡ first_again [] (map (register_at xs) (range_with_len 0 e)) → Err (Twice t) ≡ answered (signs_refusal widths xs) a
-    told_twice e t h n k = told_whole e (Some t) h n k
-
-    -- it does not
-    pub told_simple : (e : ℕ) → Ok e ≡ outcome (reads widths xs 0) → e * 19 ≡ length xs → None ≡ first_again [] (map (register_at xs) (range_with_len 0 e)) → Ok a ≡ answered (signs_refusal widths xs) a
-    told_simple e h n k = told_whole e None h n k
+        ap refused got.1 ∙ ap (λ (ts : List ℕ). refused_at Twice (first_again [] ts)) got.2 ∙ ap (refused_at Twice) (sym k)
 
 -- where its questions end
 module _ (widths xs : List ℕ) (short : Short xs) where
   pub outlined : (e : ℕ) (ends : List ℕ) → Ok e ≡ outcome (reads widths xs 0) → e * 19 ≡ length xs → length ends ≡ 8 → Noted widths xs 0 e (replicate 8 0) ends → record { count = e; ends = ends } ≡ outline_of widths xs
   unfolding outline_of count_of ends_of
   outlined e ends h n l k =
-      let count : e ≡ count_of widths xs = ap end_of (sym (asked_all widths xs (tt {0}) short e h n).1) in
+      let count : e ≡ count_of widths xs = ap end_of (sym (asked_all widths xs short e h n).1) in
       ap₂ (λ (m : ℕ) (es : List ℕ). record { count = m; ends = es }) count
       (fill_by_all (λ s. cond (ltb s (count_of widths xs)) (end_of (reads widths xs s)) 0) ends 8 0 l
       (λ s m.

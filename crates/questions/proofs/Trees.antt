@@ -84,7 +84,7 @@ module _ (widths xs : List ℕ) where
     unfolding Stands Follow reads_deep
 
     pub deep_stands : (q : Question) (n s e : ℕ) → reads_deep n widths xs s ≡ read q e → Stands widths xs q s e
-    deep_stands (ask t tests further) zero s e h = let z : ◌≡◌ {A = ℕ} 0 1 = cc in absurd (omega arith)
+    deep_stands (ask t tests further) zero s e h = cc
     deep_stands (ask t tests further) (suc n) s e h =
         let parts = sign_read (reads_deep n widths xs) widths xs s t tests further e h in
         (parts.0, parts.1, parts.2, deep_follow further n (columns_at xs s) (s + 1) e parts.3)

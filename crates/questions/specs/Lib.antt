@@ -3,6 +3,7 @@ pub mod Tests
 pub mod Questions
 pub mod Signs
 pub mod Refusals
+pub mod Words
 pub mod Reading
 pub mod Views
 pub mod Meaning

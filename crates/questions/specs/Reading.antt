@@ -1,14 +1,15 @@
 -- Over which registers signs are read, and where their questions end: what reading answers to the crates above. Assumes
 -- nothing: these are definitions.
-use Rattle.std.specs.Prelude.{◌≡◌, ℕ, zero, suc, ◌<◌, ◌≤◌, cond, ◌⊎◌, List, [], map, Ok, Err, Result, nat_lt, slice_index, slice_index_or}
+use Rattle.std.specs.Prelude.{◌≡◌, ℕ, zero, suc, ◌<◌, ◌≤◌, cond, ◌⊎◌, List, [], map, Ok, Err, Option, Result, nat_lt, slice_index, slice_index_or}
+use Rattle.std.specs.Bool.{then_some}
 use Rattle.std.specs.List.{range_with_len}
 use Rattle.registers.specs.declared.layout.Directory.{Directory}
 use Rattle.questions.specs.declared.refusals.Refusal.{Refusal}
 use Rattle.questions.specs.declared.refusals.Refusal.TheVariants.{Signs}
 use Rattle.registers.specs.Survey.{no_section}
 use Rattle.questions.specs.declared.outline.Outline.{Outline}
-use Rattle.questions.specs.Questions.{Question, ask, no_more}
-use Rattle.questions.specs.Signs.{Reading, read, stuck, reads, asked}
+use Rattle.questions.specs.Questions.{Question, ask, has, no_more}
+use Rattle.questions.specs.Signs.{Reading, read, register_at, stuck, reads, asked}
 
 -- how many columns each register has, in room for eight
 unfoldable pub widths_of : Directory → List ℕ
@@ -48,6 +49,11 @@ next (Err r) go = Err r
 unfoldable pub passed : (ℕ → Result ℕ Refusal) → (left s : ℕ) → Result ℕ Refusal
 passed go zero s = Ok s
 passed go (suc left) s = next (go s) (passed go left)
+
+-- the register of a sign, if an earlier sign goes there
+abbrev pub again_at : List ℕ → ℕ → Option ℕ
+again_at xs sign =
+    then_some (has (map (register_at xs) (range_with_len 0 sign)) (register_at xs sign)) (register_at xs sign)
 
 -- the ends of the questions that begin from one sign up to another are noted, and no other place is written
 pub record Noted (widths xs : List ℕ) (from to : ℕ) (before after : List ℕ) : Type 0 where

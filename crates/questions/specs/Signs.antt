@@ -4,11 +4,12 @@
 -- A sign is 19 numbers: the register; how many tests; room for four of them, each a column, a kind and a number; how
 -- many further questions; room for their four columns. Behind a sign stand its further questions, in order, each with
 -- all of its own. Signs count from 0. What is not used is not looked at.
-use Rattle.std.specs.Prelude.{◌≡◌, ℕ, zero, suc, ◌+◌, ◌*◌, ◌≤◌, Bool, true, cond, ◌&&◌, List, [], ◌∷◌, map, length, ◌==◌, nat_le, nat_lt, slice_index}
+use Rattle.std.specs.Prelude.{◌≡◌, ℕ, zero, suc, ◌+◌, ◌*◌, ◌<◌, ◌≤◌, Bool, true, cond, ◌&&◌, List, [], ◌∷◌, map, length, Result, MatchResult, ◌==◌, nat_le, nat_lt, slice_index}
 use Rattle.std.specs.List.{range_with_len}
 use Rattle.questions.specs.declared.kinds.Kind.{Kind}
 use Rattle.questions.specs.declared.kinds.Kind.TheVariants.{Is, IsNot, AtLeast, AtMost}
 use Rattle.questions.specs.declared.kinds.Test.{Test}
+use Rattle.questions.specs.declared.kinds.UnknownKind.{UnknownKind}
 use Rattle.questions.specs.Questions.{Question, Further, ask, no_more, and_at}
 
 -- how many numbers a sign has
@@ -50,6 +51,10 @@ further_count xs sign = number_at xs sign 14
 -- the kinds of test are 0 to 3
 abbrev pub kind_of : ℕ → Kind
 kind_of n = cond (n == 0) Is (cond (n == 1) IsNot (cond (n == 2) AtLeast AtMost))
+
+-- a number stands for its kind, or for none
+abbrev pub Decodes : ℕ → Result Kind UnknownKind → Type 0
+Decodes n r = MatchResult r (λ kind. (n ≤ 3) × (kind ≡ kind_of n)) (λ e. (3 < n) × (e.0 ≡ n))
 
 -- one of its tests
 abbrev pub test_at : List ℕ → (sign i : ℕ) → Test

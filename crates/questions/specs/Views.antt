@@ -1,5 +1,6 @@
 -- What the signs of a question in memory stand for. Assumes nothing: these are definitions.
 use Rattle.std.specs.Prelude.{ℕ, slice_index}
+use Rattle.questions.specs.declared.signs.Question.{Question as Cursor}
 use Rattle.questions.specs.declared.signs.Signs.{Signs}
 use Rattle.questions.specs.Questions.{Question, register_of}
 use Rattle.questions.specs.Reading.{question_of}
@@ -16,3 +17,10 @@ question_at q sign = question_of (reads q.widths.now q.numbers.now sign)
 -- how many columns the register of a question has
 abbrev pub width_of : Signs → Question → ℕ
 width_of q p = slice_index q.widths.now (register_of p)
+
+-- the question that is asked at a sign, and how many columns its register has
+abbrev pub asked_at : Cursor → Question
+asked_at q = question_at q.signs.now q.sign
+
+abbrev pub width_at : Cursor → ℕ
+width_at q = width_of q.signs.now (asked_at q)

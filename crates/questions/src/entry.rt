@@ -15,11 +15,7 @@ use registers::layout::{Directory, MAX_REGISTERS};
 pub fn widths(directory: &Directory) -> [usize; MAX_REGISTERS]
     ensures { result ≡ widths_of directory.now }
 {
-    let mut widths = [0; MAX_REGISTERS];
-    for t in 0..MAX_REGISTERS {
-        widths[t] = directory.sections[t].columns;
-    }
-    widths
+    directory.sections.map(|section| section.columns)
 }
 
 // The refusal of registers or of signs, if they are refused: that of the registers is told first.
@@ -27,13 +23,8 @@ pub fn check(base: &[u64], signs: &[u64]) -> Result<(), Refusal>
     ensures value { result ≡ answered (refusal_of base.now signs.now) tt }
     ensures means { refusal base.now ≡ None → Means (columns_of base.now) signs.now (refusal_in result) }
 {
-    let found = checked(base);
-    match found {
-        Ok(directory) => {
-            let widths = widths(&directory);
-            let count = directory.count;
-            read(&widths[0..count], signs).and(Ok(()))
-        }
-        Err(refusal) => Err(Refusal::Registers { refusal }),
-    }
+    let registers = checked(base)?;
+    let widths = widths(&registers.directory);
+    read(&widths[..registers.directory.count], signs)?;
+    Ok(())
 }

@@ -1,7 +1,11 @@
 // Tests of a row: one of its columns against a number.
-ghost use Rattle.std.specs.Prelude.{◌≡◌, ◌<◌, length};
-ghost use Rattle.questions.specs.Signs.{kind_of};
+ghost use Rattle.std.specs.Prelude.{◌≡◌, ◌<◌, Some, length};
+ghost use Rattle.questions.specs.Signs.{Decodes};
 ghost use Rattle.questions.specs.Tests.{passes};
+ghost use Rattle.questions.specs.Words.{kind_words, test_words, unknown_words};
+
+use std::error::Error;
+use std::fmt;
 
 #[derive(Clone, Copy, PartialEq, Eq, Debug)]
 pub enum Kind {
@@ -15,6 +19,10 @@ pub enum Kind {
     AtMost,
 }
 
+// A number that stands for no kind.
+#[derive(Clone, Copy, PartialEq, Eq, Debug)]
+pub struct UnknownKind(pub u64);
+
 #[derive(Clone, Copy)]
 pub struct Test {
     pub column: usize,
@@ -22,19 +30,45 @@ pub struct Test {
     pub number: u64,
 }
 
-impl Kind {
-    // The kind that stands as a number in a sign: 0 to 3 in their order.
-    pub(crate) fn of(number: u64) -> Kind
-        ensures { result ≡ kind_of number }
-    {
+// The kinds stand as numbers in a sign: 0 to 3 in their order.
+impl TryFrom<u64> for Kind {
+    type Error = UnknownKind;
+
+    ghost try_from_gives = { Decodes };
+
+    fn try_from(number: u64) -> Result<Kind, UnknownKind> {
         match number {
-            0 => Kind::Is,
-            1 => Kind::IsNot,
-            2 => Kind::AtLeast,
-            _ => Kind::AtMost,
+            0 => Ok(Kind::Is),
+            1 => Ok(Kind::IsNot),
+            2 => Ok(Kind::AtLeast),
+            3 => Ok(Kind::AtMost),
+            _ => Err(UnknownKind(number)),
         }
     }
 }
+
+impl fmt::Display for Kind {
+    ghost output = { λ kind. Some (kind_words kind) };
+
+    fn fmt<W: fmt::Write>(&self, f: &mut fmt::Formatter<W>) -> fmt::Result {
+        f.write_str(match self {
+            Kind::Is => "is",
+            Kind::IsNot => "is not",
+            Kind::AtLeast => "at least",
+            Kind::AtMost => "at most",
+        })
+    }
+}
+
+impl fmt::Display for UnknownKind {
+    ghost output = { λ e. Some (unknown_words e) };
+
+    fn fmt<W: fmt::Write>(&self, f: &mut fmt::Formatter<W>) -> fmt::Result {
+        write!(f, "no kind of test has number {}", self.0)
+    }
+}
+
+impl Error for UnknownKind {}
 
 impl Test {
     // Whether a row passes the test.
@@ -49,5 +83,19 @@ impl Test {
             Kind::AtLeast => cell >= self.number,
             Kind::AtMost => cell <= self.number,
         }
+    }
+}
+
+// What the test asks of a column.
+impl fmt::Display for Test {
+    ghost output = { λ test. Some (test_words test) };
+
+    fn fmt<W: fmt::Write>(&self, f: &mut fmt::Formatter<W>) -> fmt::Result {
+        let Test {
+            column,
+            kind,
+            number,
+        } = self;
+        write!(f, "column {column} {kind} {number}")
     }
 }

@@ -1,7 +1,7 @@
 // What is asked: questions that go from register to register, read from signs.
 //
-// `check` takes any registers and any signs. The crates above read the signs of a question, and ask each sign for its
-// register, its tests and its further questions by `Signs`.
+// `check` takes any registers and any signs. The crates above read signs, and ask a question for its register, its
+// tests and its further questions by `Question`.
 #![tactic(auto)]
 
 mod asked;

@@ -1,9 +1,12 @@
 // Why registers, or the signs of a question over them, are turned away.
-ghost use Rattle.std.specs.Prelude.{◌≡◌};
+ghost use Rattle.std.specs.Prelude.{◌≡◌, Some};
 ghost use Rattle.questions.specs.declared.refusals.Refusal.TheVariants.{Registers};
 ghost use Rattle.questions.specs.Refusals.{number, place};
+ghost use Rattle.questions.specs.Words.{refusal_words};
 
 use registers::refusals::Refusal as RegistersRefusal;
+use std::error::Error;
+use std::fmt;
 
 #[derive(Clone, Copy, PartialEq, Eq, Debug)]
 pub enum Refusal {
@@ -17,7 +20,7 @@ pub enum Refusal {
 }
 
 impl Refusal {
-    // The number by which the refusal is told.
+    // The number by which the refusal is told. That of registers answers for its own cases, and this for all.
     pub fn number(self) -> u64
         ensures { result ≡ number self }
     {
@@ -47,3 +50,16 @@ impl From<RegistersRefusal> for Refusal {
         Refusal::Registers { refusal }
     }
 }
+
+// That it is refused, and why.
+impl fmt::Display for Refusal {
+    ghost output = { λ refusal. Some (refusal_words refusal) };
+
+    fn fmt<W: fmt::Write>(&self, f: &mut fmt::Formatter<W>) -> fmt::Result {
+        let number = self.number();
+        let place = self.place();
+        write!(f, "refused {number} {place}")
+    }
+}
+
+impl Error for Refusal {}

@@ -1,17 +1,24 @@
-// The signs of a question that is not refused.
-ghost use Rattle.std.specs.Prelude.{◌≡◌, false, is_some};
-ghost use Rattle.questions.specs.Reading.{count_of, ends_of};
+// The signs of a question that is not refused, and the questions that begin at them.
+ghost use Rattle.std.specs.Prelude.{◌≡◌, ◌<◌, false, is_some};
+ghost use Rattle.questions.specs.Reading.{outline_of};
 ghost use Rattle.questions.specs.Refusals.{signs_refusal};
 
 use crate::outline::Outline;
 
-// Read over registers of so many columns each; asked for what stands at each sign.
+// Read over registers of so many columns each; `question` is what they ask.
 #[derive(Clone, Copy)]
 pub struct Signs<'a> {
     pub(crate) widths: &'a [usize],
     pub(crate) numbers: &'a [u64],
-    pub(crate) outline: Outline,
+    pub outline: Outline,
     ghost accepted: { is_some (signs_refusal widths.now numbers.now) ≡ false },
-    ghost counted: { outline.count ≡ count_of widths.now numbers.now },
-    ghost ended: { outline.ends ≡ ends_of widths.now numbers.now },
+    ghost outlined: { outline ≡ outline_of widths.now numbers.now },
+}
+
+// The question that begins at a sign.
+#[derive(Clone, Copy)]
+pub struct Question<'a> {
+    pub(crate) signs: &'a Signs<'a>,
+    pub(crate) sign: usize,
+    ghost there: { sign < signs.now.outline.count },
 }

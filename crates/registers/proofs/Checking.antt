@@ -1,56 +1,35 @@
 -- From the survey and the entries to the refusal, and from the blocks that a scan passes to its answer.
-use Rattle.std.proofs.Common.{◌≡◌, ℕ, zero, suc, ◌+◌, ◌*◌, ◌<◌, ◌≤◌, Bool, true, false, ◌||◌, eqb, List, [], ◌∷◌, ◌++◌, map, get_or, take, drop, Some, None, Ok, Err, Option, sym, refl, ap, ◌∙◌, ap₂, add-one, arith, take-add}
+use Rattle.std.proofs.Common.{◌≡◌, ℕ, zero, suc, ◌+◌, ◌*◌, ◌<◌, ◌≤◌, Bool, true, false, ◌||◌, eqb, List, [], ◌∷◌, ◌++◌, map, get_or, take, drop, Some, None, Ok, Err, Option, Result, sym, refl, ap, ◌∙◌, ap₂, add-one, arith, take-add}
 use Rattle.std.specs.List.{range_with_len, flat_map}
+use Rattle.std.specs.Result.{IsErrAnd, MatchResult}
 use Rattle.std.proofs.lemmas.List.FromFn.{map-range_with_len_more}
 use Rattle.std.proofs.lemmas.List.{drop-drop, flat_map_more}
 use Rattle.std.proofs.lemmas.Bool.{cond-false, cond-true, eq-eqb, ne_eqb, or_from, or_parts}
-use Rattle.registers.specs.declared.layout.Directory.{Directory}
 use Rattle.registers.specs.declared.layout.Section.{Section}
 use Rattle.registers.specs.declared.refusals.Refusal.{Refusal}
+use Rattle.registers.specs.declared.registers.Registers.{Registers}
 use Rattle.registers.specs.declared.refusals.Refusal.TheVariants.{Layout, Blocks}
-use Rattle.registers.specs.Indexing.{Enough, Stands}
 use Rattle.registers.specs.Base.{Block, Register, Row, has_key, rows_under}
-use Rattle.registers.specs.Layout.{block_at, block_end, block_place, blocks_before, blocks_from, count_of, register_at, row_at, rows_from}
-use Rattle.registers.specs.Refusals.{answered, misfit, or_else, refusal, refused_at}
-use Rattle.registers.specs.Survey.{directory_of, no_section}
+use Rattle.registers.specs.Layout.{block_at, block_end, block_place, blocks_from, register_at, row_at, rows_from}
+use Rattle.registers.specs.Refusals.{answered, misfit, misstated, or_else, refusal, refused_at}
 use Rattle.registers.proofs.Fitting.{block_place_more, block_place_none}
-use Rattle.registers.proofs.Finding.{sound_parts}
-use Rattle.registers.proofs.Noting.{blocks_from_more, blocks_from_split, key_block, stands_register}
-use Rattle.registers.proofs.Placing.{Turn, blocks_few, turn_at, turn_stands}
+use Rattle.registers.proofs.Noting.{Stands, blocks_from_more, blocks_from_split, key_block, stands_register}
 use Rattle.registers.proofs.Proper.{has_key_push}
 
--- the largest room is enough for all registers
-pub enough_all : (xs : List ℕ) (directory : Directory) → misfit xs ≡ None → directory ≡ directory_of xs → Enough xs directory 65544 32768
-enough_all xs directory e h =
-    let few = blocks_few xs e in
-    record { fits = e; surveyed = h; slots_enough = omega arith; places_enough = omega arith }
-
--- smaller room is enough for fewer blocks
-pub enough_for : (xs : List ℕ) (directory : Directory) (b slots places : ℕ) → Enough xs directory 65544 32768 → directory.blocks ≤ b → 2 * b + 8 ≤ slots → b ≤ places → Enough xs directory slots places
-unfolding directory_of
-enough_for xs directory b slots places k l m n =
-    let blocks : directory.blocks ≡ blocks_before xs (count_of xs) = ap (λ (d : Directory). d.blocks) k.surveyed in
-    let few = blocks_few xs k.fits in
-    record { fits = k.fits; surveyed = k.surveyed; slots_enough = omega arith; places_enough = omega arith }
+-- a refusal that is handed on
+pub handed_on : {T : Type 0} (r : Result T Refusal) (P : T → Type 0) (o : Option Refusal) (e : Refusal) → IsErrAnd r (λ x. x ≡ e) → o ≡ Some e → MatchResult r P (λ x. o ≡ Some x)
+handed_on (Ok a) P o e h k = absurd h
+handed_on (Err x) P o e h k = k ∙ ap Some (sym h)
 
 -- what the survey refuses is refused, and else what is not proper
-pub told_layout : {A B : Type 0} (m b : Option ℕ) (e : Refusal) (x : A) (y : B) → Err e ≡ answered (refused_at Layout m) x → Err e ≡ answered (or_else (refused_at Layout m) (refused_at Blocks b)) y
-told_layout None b e x y h = let z : ◌≡◌ {A = ℕ} 0 1 = cc in absurd (omega arith)
-told_layout (Some t) b e x y h = cc
+pub refusal_layout : (xs : List ℕ) (e : Refusal) → refused_at Layout (misfit xs) ≡ Some e → refusal xs ≡ Some e
+unfolding refusal
+refusal_layout xs e h = ap (λ (o : Option Refusal). or_else o (refused_at Blocks (misstated xs))) h
 
-pub surveyed_none : {A : Type 0} (m : Option ℕ) (x y : A) → Ok x ≡ answered (refused_at Layout m) y → (m ≡ None) × (x ≡ y)
-surveyed_none None x y h = (refl, cc)
-surveyed_none (Some t) x y h = let z : ◌≡◌ {A = ℕ} 0 1 = cc in absurd (omega arith)
-
-pub told_blocks : {A B : Type 0} (m b : Option ℕ) (e : Refusal) (x : A) (y : B) → m ≡ None → Err e ≡ answered (refused_at Blocks b) x → Err e ≡ answered (or_else (refused_at Layout m) (refused_at Blocks b)) y
-told_blocks None None e x y n h = let z : ◌≡◌ {A = ℕ} 0 1 = cc in absurd (omega arith)
-told_blocks None (Some t) e x y n h = cc
-told_blocks (Some i) b e x y n h = let z : ◌≡◌ {A = ℕ} 0 1 = cc in absurd (omega arith)
-
-pub told_sound : {A B : Type 0} (m b : Option ℕ) (x : A) (y z : B) → m ≡ None → Ok x ≡ answered (refused_at Blocks b) x → z ≡ y → Ok z ≡ answered (or_else (refused_at Layout m) (refused_at Blocks b)) y
-told_sound None None x y z n h e = ap Ok e
-told_sound None (Some t) x y z n h e = let w : ◌≡◌ {A = ℕ} 0 1 = cc in absurd (omega arith)
-told_sound (Some i) b x y z n h e = let w : ◌≡◌ {A = ℕ} 0 1 = cc in absurd (omega arith)
+pub refusal_blocks : (r : Registers) (xs : List ℕ) (o : Option Refusal) → r.base.now ≡ xs → refused_at Blocks (misstated r.base.now) ≡ o → refusal xs ≡ o
+unfolding refusal
+refusal_blocks r xs o is h =
+    ap refusal (sym is) ∙ ap (λ (m : Option ℕ). or_else (refused_at Layout m) (refused_at Blocks (misstated r.base.now))) r.fits ∙ h
 
 -- the rows of a block, one behind the other, are a part of the slice
 pub rows_joined : (xs : List ℕ) (w p n : ℕ) → flat_map (λ r. r) (rows_from xs w p n) ≡ take (n * w) (drop p xs)
@@ -129,12 +108,3 @@ answered_ok (Some e) x y h = let z : ◌≡◌ {A = ℕ} 0 1 = cc in absurd (ome
 pub answered_err : {A : Type 0} (o : Option Refusal) (e : Refusal) (y : A) → Err e ≡ answered o y → o ≡ Some e
 answered_err None e y h = let z : ◌≡◌ {A = ℕ} 0 1 = cc in absurd (omega arith)
 answered_err (Some f) e y h = cc
-
--- and of the registers that are surveyed then
-pub enough_turn : (xs : List ℕ) (directory : Directory) (t : ℕ) → Enough xs directory 65544 32768 → t < directory.count → Turn xs t (get_or directory.sections t no_section) 65544 32768 × Stands xs (get_or directory.sections t no_section)
-enough_turn xs directory t k l =
-    let u = turn_at xs directory 65544 32768 t k l in
-    (u.0, turn_stands xs t (get_or directory.sections t no_section) 65544 32768 u.0 u.1)
-
-pub surveyed_turn : (xs : List ℕ) (directory : Directory) (t : ℕ) → refusal xs ≡ None → directory ≡ directory_of xs → t < directory.count → Turn xs t (get_or directory.sections t no_section) 65544 32768 × Stands xs (get_or directory.sections t no_section)
-surveyed_turn xs directory t e h l = enough_turn xs directory t (enough_all xs directory (sound_parts xs e).0 h) l

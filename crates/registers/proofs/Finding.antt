@@ -1,5 +1,5 @@
 -- What an index tells: the number of a key's block, and the place of each block.
-use Rattle.std.proofs.Common.{◌≡◌, ℕ, zero, suc, ◌+◌, ◌-◌, ◌*◌, ◌<◌, ◌≤◌, true, not, eqb, List, [], ◌∷◌, length, get_or, take, drop, Some, None, Option, sym, refl, ap, ◌∙◌, subst, ap₂, ⊎_elim, add-one, arith}
+use Rattle.std.proofs.Common.{◌≡◌, ℕ, zero, suc, ◌+◌, ◌*◌, ◌<◌, true, not, eqb, List, [], ◌∷◌, length, get_or, take, drop, Some, None, Option, sym, refl, ap, ◌∙◌, subst, ap₂, ⊎_elim, add-one, arith}
 use mathlib.Core.Logic.{∥∥₁_elim}
 use native.Mathlib.Bridge.{le_prop}
 use base.Stored.{coded_bool, coded_ℕ}
@@ -12,15 +12,15 @@ use Rattle.std.proofs.lemmas.Bool.{and_parts, cases_eq, cases_lt, cond-false, co
 use Rattle.registers.specs.declared.layout.Directory.{Directory}
 use Rattle.registers.specs.declared.layout.Section.{Section}
 use Rattle.registers.specs.declared.refusals.Refusal.TheVariants.{Layout, Blocks}
-use Rattle.registers.specs.declared.table.Slot.{Slot}
+use Rattle.registers.specs.declared.table.Entry.{Entry}
 use Rattle.registers.specs.Base.{Block, Register, Row, block, has_key, proper_register, register, rows_under}
 use Rattle.registers.specs.Indexing.{Indexed, Told, keys_of, number_under, one_more, table_place}
 use Rattle.registers.specs.Layout.{base_of, block_at, block_place, blocks_at, blocks_before, columns_at, count_of, register_at, register_place, rows_from}
 use Rattle.registers.specs.Refusals.{block_fits, misfit, misstated, or_else, refusal, refused_at}
 use Rattle.registers.specs.Survey.{no_section}
-use Rattle.registers.specs.Table.{Holds, Open, Probed, free}
+use Rattle.registers.specs.Table.{Holds, Open, Probed, Slot, slot_at}
 use Rattle.registers.proofs.Entering.{holds_known, holds_open, holds_unknown}
-use Rattle.registers.proofs.Fitting.{Inside, fit_from, inside_from}
+use Rattle.registers.proofs.Fitting.{fit_from}
 use Rattle.registers.proofs.Noting.{block_fits_at}
 use Rattle.registers.proofs.Placing.{Turn, enough_count, first_failing_none, turn_at}
 use Rattle.registers.proofs.Proper.{has_key_at}
@@ -102,12 +102,12 @@ Turn-prop xs t section m n p q = λ i.
 Open-prop : (table : List Slot) → IsProp (Open table)
 Open-prop table p q = λ i. record { room = le_prop p.room q.room i; short = le_prop p.short q.short i }
 
-module _ (xs : List ℕ) (directory : Directory) (slots : List Slot) (places : List ℕ) (ix : ∥ Indexed xs directory slots places ∥₁) (t : ℕ) (l : t < directory.count) where
+module _ (xs : List ℕ) (directory : Directory) (slots : List Slot) (places : List ℕ) (ix : ∥ Indexed xs directory slots places ∥₁) (t : ℕ) (section : Section) (l : t < directory.count) (is : section ≡ get_or directory.sections t no_section) where
   -- where the t-th register stands, and its table and places
-  pub index_turn : Turn xs t (get_or directory.sections t no_section) (length slots) (length places)
+  pub index_turn : Turn xs t section (length slots) (length places)
   index_turn =
       ∥∥₁_elim ix (Turn-prop xs t _ _ _)
-      (λ k. (turn_at xs directory (length slots) (length places) t k.enough l).0)
+      (λ k. subst (λ (s : Section). Turn xs t s (length slots) (length places)) (sym is) (turn_at xs directory (length slots) (length places) t k.enough l).0)
 
   -- it is proper
   pub index_proper : proper_register (register_at xs (register_place xs t)) ≡ true
@@ -117,10 +117,10 @@ module _ (xs : List ℕ) (directory : Directory) (slots : List Slot) (places : L
       (λ k. first_failing_none (λ i. proper_register (register_at xs (register_place xs i))) (count_of xs) t (sound_parts xs k.sound).1 index_turn.less)
 
   -- each of its blocks is noted
-  pub index_noted : (i : ℕ) → i < (get_or directory.sections t no_section).blocks → get_or places ((get_or directory.sections t no_section).first + i) 0 ≡ block_place xs (get_or directory.sections t no_section).columns ((get_or directory.sections t no_section).place + 2) i
+  pub index_noted : (i : ℕ) → i < section.blocks → get_or places (section.first + i) 0 ≡ block_place xs section.columns (section.place + 2) i
   index_noted i h =
       let u = index_turn in
-      let same : block_place xs (columns_at xs (register_place xs t)) (register_place xs t + 2) i ≡ block_place xs (get_or directory.sections t no_section).columns ((get_or directory.sections t no_section).place + 2) i =
+      let same : block_place xs (columns_at xs (register_place xs t)) (register_place xs t + 2) i ≡ block_place xs section.columns (section.place + 2) i =
       ap₂ (λ (w p : ℕ). block_place xs w (p + 2) i) (sym u.columns) (sym u.place) in
       ∥∥₁_elim ix (≡_prop coded_ℕ _ _)
       (λ k.
@@ -130,16 +130,16 @@ module _ (xs : List ℕ) (directory : Directory) (slots : List Slot) (places : L
       ∙ same)
 
   -- its keys are found
-  module _ (table : List Slot) (e : table ≡ between (2 * (get_or directory.sections t no_section).first + t) (2 * (get_or directory.sections t no_section).first + t + 2 * (get_or directory.sections t no_section).blocks + 1) slots) where
+  module _ (table : List Slot) (from to : ℕ) (start : from ≡ 2 * section.first + t) (end : to ≡ from + 2 * section.blocks + 1) (e : table ≡ between from to slots) where
     table_is : table ≡ between (table_place xs t) (table_place xs t + 2 * blocks_at xs (register_place xs t) + 1) slots
     table_is =
         let u = index_turn in
-        e ∙ ap₂ (λ (a n : ℕ). between (2 * a + t) (2 * a + t + 2 * n + 1) slots) u.first u.blocks
+        e ∙ ap₂ (λ (a b : ℕ). between a b slots) (omega (arith, u.first)) (omega (arith, u.first, u.blocks))
 
-    length_table : length table ≡ 2 * (get_or directory.sections t no_section).blocks + 1
-    length_table = ap length e ∙ length-between slots _ _ index_turn.table ∙ omega arith
+    length_table : length table ≡ 2 * section.blocks + 1
+    length_table = ap length e ∙ length-between slots _ _ (omega (arith, index_turn.table)) ∙ omega arith
 
-    length_keys : length (keys_of (register_at xs (register_place xs t))) ≡ (get_or directory.sections t no_section).blocks
+    length_keys : length (keys_of (register_at xs (register_place xs t))) ≡ section.blocks
     length_keys = length-map (register_at xs (register_place xs t)) (λ (b : Block). b.key) ∙ length_register xs (register_place xs t) ∙ sym index_turn.blocks
 
     pub index_open : Open table
@@ -150,17 +150,17 @@ module _ (xs : List ℕ) (directory : Directory) (slots : List Slot) (places : L
         (subst (λ (s : List Slot). Holds s (keys_of (register_at xs (register_place xs t)))) (sym table_is) (k.entered t index_turn.less).keys)
         (omega (arith, length_table, length_keys)) (omega (arith, length_table, index_turn.few_blocks)))
 
-    pub index_finds : (k r : ℕ) → Probed table k r → ((get_or table r free).entry ≡ 0 → ⊥) → Some ((get_or table r free).entry - 1) ≡ number_under k (register_at xs (register_place xs t))
-    index_finds k r p u =
-        let own : ((get_or table r free).entry - 1 < length (keys_of (register_at xs (register_place xs t)))) × (get_or (keys_of (register_at xs (register_place xs t))) ((get_or table r free).entry - 1) 0 ≡ k) =
+    pub index_finds : (k r : ℕ) (e : Entry) → Probed table k r → slot_at table r ≡ Some e → Some e.block ≡ number_under k (register_at xs (register_place xs t))
+    index_finds k r e p u =
+        let own : (e.block < length (keys_of (register_at xs (register_place xs t)))) × (get_or (keys_of (register_at xs (register_place xs t))) e.block 0 ≡ k) =
         ∥∥₁_elim ix (hlevel props)
         (λ x.
         holds_known table (keys_of (register_at xs (register_place xs t)))
         (subst (λ (s : List Slot). Holds s (keys_of (register_at xs (register_place xs t)))) (sym table_is) (x.entered t index_turn.less).keys)
-        k r p u) in
+        k r p e u) in
         sym (number_at k _ (register_at xs (register_place xs t)) index_proper own.0 own.1)
 
-    pub index_lacks : (k r : ℕ) → Probed table k r → (get_or table r free).entry ≡ 0 → None ≡ number_under k (register_at xs (register_place xs t))
+    pub index_lacks : (k r : ℕ) → Probed table k r → slot_at table r ≡ None → None ≡ number_under k (register_at xs (register_place xs t))
     index_lacks k r p u =
         sym (number_none k (register_at xs (register_place xs t))
         (λ i h same.
@@ -171,40 +171,41 @@ module _ (xs : List ℕ) (directory : Directory) (slots : List Slot) (places : L
         k r p u i h same)))
 
 -- the block of a number, and where it stands
-pub record Located (xs : List ℕ) (directory : Directory) (places : List ℕ) (slots : ℕ) (t i at : ℕ) : Type 0 where
-  pub turn : Turn xs t (get_or directory.sections t no_section) slots (length places)
-  pub less : i < (get_or directory.sections t no_section).blocks
-  pub inside : Inside xs (get_or directory.sections t no_section).columns at
-  pub few_columns : (get_or directory.sections t no_section).columns ≤ 8
-  pub block_is : block_at xs (get_or directory.sections t no_section).columns at ≡ block (register (base_of xs) t) i
+pub record Located (xs : List ℕ) (section : Section) (slots places t i at : ℕ) : Type 0 where
+  pub turn : Turn xs t section slots places
+  pub less : i < section.blocks
+  pub fits : block_fits xs section.columns at ≡ true
+  pub block_is : block_at xs section.columns at ≡ block (register (base_of xs) t) i
 
 -- how many registers there are
 pub index_count : (xs : List ℕ) (directory : Directory) (slots : List Slot) (places : List ℕ) → ∥ Indexed xs directory slots places ∥₁ → directory.count ≡ count_of xs
 index_count xs directory slots places ix =
     ∥∥₁_elim ix (≡_prop coded_ℕ _ _) (λ k. enough_count xs directory (length slots) (length places) k.enough)
 
-pub located : (xs : List ℕ) (directory : Directory) (slots : List Slot) (places : List ℕ) (t i : ℕ) → ∥ Indexed xs directory slots places ∥₁ → i < length (register (base_of xs) t) → Located xs directory places (length slots) t i (get_or places ((get_or directory.sections t no_section).first + i) 0)
-located xs directory slots places t i ix h =
+-- a register that has a block is one of them
+pub index_there : (xs : List ℕ) (directory : Directory) (slots : List Slot) (places : List ℕ) (t i : ℕ) → ∥ Indexed xs directory slots places ∥₁ → i < length (register (base_of xs) t) → t < directory.count
+index_there xs directory slots places t i ix h =
     let count = index_count xs directory slots places ix in
-    let l : t < directory.count =
     ⊎_elim (λ below. omega arith)
     (λ beyond. absurd (let none : length (register (base_of xs) t) ≡ 0 = ap length (register_beyond xs t beyond) in omega arith))
-    (cases_lt t (count_of xs)) in
-    let u = index_turn xs directory slots places ix t l in
+    (cases_lt t (count_of xs))
+
+pub located : (xs : List ℕ) (directory : Directory) (slots : List Slot) (places : List ℕ) (t i : ℕ) (section : Section) → ∥ Indexed xs directory slots places ∥₁ → i < length (register (base_of xs) t) → section ≡ get_or directory.sections t no_section → Located xs section (length slots) (length places) t i (get_or places (section.first + i) 0)
+located xs directory slots places t i section ix h is =
+    let l = index_there xs directory slots places t i ix h in
+    let u = index_turn xs directory slots places ix t section l is in
     let many : length (register (base_of xs) t) ≡ blocks_at xs (register_place xs t) = ap length (register_there xs t u.less) ∙ length_register xs (register_place xs t) in
-    let less : i < (get_or directory.sections t no_section).blocks = omega (arith, u.blocks) in
-    let noted = index_noted xs directory slots places ix t l i less in
+    let less : i < section.blocks = omega (arith, u.blocks) in
+    let noted = index_noted xs directory slots places ix t section l is i less in
     let fit = fit_from xs (register_place xs t) u.fits in
-    let same : block_place xs (get_or directory.sections t no_section).columns ((get_or directory.sections t no_section).place + 2) i ≡ block_place xs (columns_at xs (register_place xs t)) (register_place xs t + 2) i =
+    let same : block_place xs section.columns (section.place + 2) i ≡ block_place xs (columns_at xs (register_place xs t)) (register_place xs t + 2) i =
     ap₂ (λ (w p : ℕ). block_place xs w (p + 2) i) u.columns u.place in
     record {
       turn = u;
       less = less;
-      inside =
-          inside_from xs _ _
-          (ap₂ (block_fits xs) u.columns (noted ∙ same)
-          ∙ block_fits_at xs (columns_at xs (register_place xs t)) (register_place xs t + 2) (blocks_at xs (register_place xs t)) i fit.blocks (omega arith));
-      few_columns = omega (arith, u.columns, fit.few_columns);
+      fits =
+          ap₂ (block_fits xs) u.columns (noted ∙ same)
+          ∙ block_fits_at xs (columns_at xs (register_place xs t)) (register_place xs t + 2) (blocks_at xs (register_place xs t)) i fit.blocks (omega arith);
       block_is =
           ap₂ (block_at xs) u.columns (noted ∙ same)
           ∙ sym (block_there xs (register_place xs t) i (omega arith))

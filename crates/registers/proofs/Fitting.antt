@@ -46,6 +46,10 @@ block_fits_cut xs w p h = grind (arith, nat_tests)
 pub block_fits_all : (xs : List ℕ) (w p : ℕ) → p + 2 ≤ length xs → get_or xs (p + 1) 0 ≤ 64 → block_end xs w p ≤ length xs → block_fits xs w p ≡ true
 block_fits_all xs w p a b c = grind (arith, nat_tests)
 
+-- a block that fits ends in the slice
+pub block_fits_inside : (xs : List ℕ) (w p : ℕ) → block_fits xs w p ≡ true → block_end xs w p ≤ length xs
+block_fits_inside xs w p h = grind (arith, nat_tests)
+
 -- a walk over blocks: the place reached, and that all blocks before it were there
 pub record Walked (xs : List ℕ) (w p i at : ℕ) : Type 0 where
   pub place : at ≡ block_place xs w p i
@@ -55,21 +59,17 @@ pub record Walked (xs : List ℕ) (w p i at : ℕ) : Type 0 where
 pub walked_none : (xs : List ℕ) (w p : ℕ) → p ≤ length xs → Walked xs w p 0 p
 walked_none xs w p h = record { place = sym (block_place_none xs w p); fit = blocks_fit_none xs w p; inside = h }
 
-pub walked_more : (xs : List ℕ) (w p i at : ℕ) → Walked xs w p i at → block_fits xs w at ≡ true → block_end xs w at ≤ length xs → Walked xs w p (i + 1) (block_end xs w at)
-walked_more xs w p i at k f h =
+pub walked_more : (xs : List ℕ) (w p i at : ℕ) → Walked xs w p i at → block_fits xs w at ≡ true → Walked xs w p (i + 1) (block_end xs w at)
+walked_more xs w p i at k f =
     record {
       place = ap (block_end xs w) k.place ∙ sym (block_place_more xs w p i);
       fit = blocks_fit_more xs w p i ∙ and_from _ _ k.fit (ap (block_fits xs w) (sym k.place) ∙ f);
-      inside = h;
+      inside = block_fits_inside xs w at f;
     }
 
 -- a walk that stops at a block tells that the blocks are not all there
 pub walked_stops : {A : Type 0} (xs : List ℕ) (w p n i at : ℕ) (x y : A) → Walked xs w p i at → i < n → block_fits xs w at ≡ false → y ≡ cond (blocks_fit xs w p n) x y
 walked_stops xs w p n i at x y k h f = sym (cond-false _ x y (blocks_fit_fails xs w p n i h (ap (block_fits xs w) (sym k.place) ∙ f)))
-
--- a block that fits ends in the slice
-pub block_fits_inside : (xs : List ℕ) (w p : ℕ) → block_fits xs w p ≡ true → block_end xs w p ≤ length xs
-block_fits_inside xs w p h = grind (arith, nat_tests)
 
 -- where its numbers stand
 pub record Inside (xs : List ℕ) (w p : ℕ) : Type 0 where

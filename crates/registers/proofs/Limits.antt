@@ -180,5 +180,5 @@ Within-prop xs p q = λ i.
       small_cells = λ t j k c h l m n. le_prop (p.small_cells t j k c h l m n) (q.small_cells t j k c h l m n) i;
     }
 
-pub index_within : (ix : Index) → Within ix.base.now
-index_within ix = ∥∥₁_elim ix.sound (Within-prop ix.base.now) (λ k. limits_hold ix.base.now k.sound)
+pub index_within : (ix : Index) → Within ix.registers.base.now
+index_within ix = ∥∥₁_elim ix.sound (Within-prop ix.registers.base.now) (λ k. limits_hold ix.registers.base.now k.sound)

@@ -1,19 +1,21 @@
 -- Entering the blocks of one register, block by block.
-use Rattle.std.proofs.Common.{◌≡◌, ℕ, zero, suc, ◌+◌, ◌*◌, ◌<◌, ◌≤◌, Bool, true, false, not, ◌&&◌, ltb, ◌⊎◌, List, [], ◌∷◌, ◌++◌, map, length, get_or, drop, set, replicate, sym, refl, ap, ◌∙◌, subst, ap₂, ⊎_elim, arith, below_more}
+use Rattle.std.proofs.Common.{◌≡◌, ℕ, zero, suc, ◌+◌, ◌*◌, ◌<◌, ◌≤◌, Bool, true, false, not, ◌&&◌, ltb, ◌⊎◌, List, [], ◌∷◌, ◌++◌, map, length, get_or, drop, set, replicate, Some, None, sym, refl, ap, ◌∙◌, subst, ap₂, ⊎_elim, arith, below_more}
 use Rattle.std.specs.List.{range_with_len}
 use Rattle.std.proofs.lemmas.List.FromFn.{length-map-range_with_len, map-range_with_len_more, take-map-range_with_len}
 use Rattle.std.proofs.lemmas.List.{get_or-set_same, get_or-set_other, length-map, length-replicate, length-set, map_push, take-append-drop}
 use Rattle.std.proofs.lemmas.Bool.{and_from, and_right, and_left, and_parts, cases_eq, le-ltb, lt-ltb}
 use Rattle.registers.specs.declared.layout.Section.{Section}
-use Rattle.registers.specs.declared.table.Slot.{Slot}
+use Rattle.registers.specs.declared.registers.Register.{Register as RegisterPart}
+use Rattle.registers.specs.declared.table.Entry.{Entry}
 use Rattle.registers.specs.Base.{Block, Register, has_key, proper_register}
-use Rattle.registers.specs.Indexing.{Awaits, Entered, Stands, keys_of}
+use Rattle.registers.specs.Indexing.{Entered, keys_of}
 use Rattle.registers.specs.Layout.{block_at, block_end, block_place, blocks_at, blocks_from, columns_at, register_at, rows_from}
-use Rattle.registers.specs.Refusals.{block_fits, blocks_fit}
-use Rattle.registers.specs.Table.{Holds, Open, Probed, free}
-use Rattle.registers.proofs.Fitting.{Inside, block_place_more, block_place_none, fit_from, inside_from}
+use Rattle.registers.specs.Refusals.{block_fits, blocks_fit, register_fits}
+use Rattle.registers.specs.Survey.{section_at}
+use Rattle.registers.specs.Table.{Holds, Open, Probed, Slot, free, slot_at, slot_of}
+use Rattle.registers.proofs.Fitting.{block_place_more, block_place_none, fit_from}
 use Rattle.registers.proofs.Proper.{has_key_at, has_key_none, improper_longer, proper_push}
-use Rattle.registers.proofs.Entering.{entered, holds_known, holds_more, holds_none, holds_open, holds_unknown}
+use Rattle.registers.proofs.Entering.{holds_known, holds_more, holds_none, holds_open, holds_unknown}
 
 -- blocks one by one
 pub blocks_from_more : (xs : List ℕ) (w p i : ℕ) → blocks_from xs w p (i + 1) ≡ blocks_from xs w p i ++ block_at xs w (block_place xs w p i) ∷ []
@@ -53,6 +55,15 @@ block_fits_at xs w p (suc n) i h l =
     (λ other. let less : i < n = omega arith in block_fits_at xs w p n i parts.0 less)
     (cases_eq i n)
 
+-- a register that is there
+pub record Stands (xs : List ℕ) (section : Section) : Type 0 where
+  pub fits : register_fits xs section.place ≡ true
+  pub section_is : section ≡ section_at xs section.place section.first
+
+-- a part of the slice that is a register is there
+pub stands_part : (r : RegisterPart) → Stands r.base.now r.section
+stands_part r = record { fits = r.fits; section_is = r.section_is }
+
 -- what is known of a register that is there, by its section
 pub stands_columns : (xs : List ℕ) (section : Section) → Stands xs section → section.columns ≡ columns_at xs section.place
 stands_columns xs section a = ap (λ (s : Section). s.columns) a.section_is
@@ -66,11 +77,12 @@ stands_register xs section a =
     ap₂ (λ (w n : ℕ). blocks_from xs w (section.place + 2) n) (stands_columns xs section a) (stands_blocks xs section a)
 
 -- its i-th block is there
-pub stands_inside : (xs : List ℕ) (section : Section) (i at : ℕ) → Stands xs section → at ≡ block_place xs section.columns (section.place + 2) i → i < section.blocks → Inside xs section.columns at
-stands_inside xs section i at a e l =
-    let fit : blocks_fit xs section.columns (section.place + 2) section.blocks ≡ true =
-    ap₂ (λ (w n : ℕ). blocks_fit xs w (section.place + 2) n) (stands_columns xs section a) (stands_blocks xs section a) ∙ (fit_from xs section.place a.fits).blocks in
-    inside_from xs section.columns at (ap (block_fits xs section.columns) e ∙ block_fits_at xs section.columns (section.place + 2) section.blocks i fit l)
+pub stands_block : (r : RegisterPart) (i at : ℕ) → at ≡ block_place r.base.now r.section.columns (r.section.place + 2) i → i < r.section.blocks → block_fits r.base.now r.section.columns at ≡ true
+stands_block r i at e l =
+    let stands = stands_part r in
+    let fit : blocks_fit r.base.now r.section.columns (r.section.place + 2) r.section.blocks ≡ true =
+    ap₂ (λ (w n : ℕ). blocks_fit r.base.now w (r.section.place + 2) n) (stands_columns r.base.now r.section stands) (stands_blocks r.base.now r.section stands) ∙ (fit_from r.base.now r.section.place r.fits).blocks in
+    ap (block_fits r.base.now r.section.columns) e ∙ block_fits_at r.base.now r.section.columns (r.section.place + 2) r.section.blocks i fit l
 
 -- what is known when i of n blocks from place p on are entered
 pub record Noting (xs : List ℕ) (w p n i at : ℕ) (table : List Slot) (places : List ℕ) : Type 0 where
@@ -115,20 +127,20 @@ module _ (xs : List ℕ) (w p n i at : ℕ) (table : List Slot) (places : List �
       ∙ ap (λ (a : ℕ). keys_of (blocks_from xs w p i) ++ a ∷ []) (key_block xs w at)
 
   -- where its key is met, or it has no row, the register is not proper
-  pub noting_stops : (slot : ℕ) → i < n → Probed table (get_or xs at 0) slot → (get_or xs (at + 1) 0 ≡ 0) ⊎ ((get_or table slot free).entry ≡ 0 → ⊥) → proper_register (blocks_from xs w p n) ≡ false
+  pub noting_stops : (slot : ℕ) → i < n → Probed table (get_or xs at 0) slot → (get_or xs (at + 1) 0 ≡ 0) ⊎ ((e : Entry) × (slot_at table slot ≡ Some e)) → proper_register (blocks_from xs w p n) ≡ false
   noting_stops slot l q h =
       let more : proper_register (blocks_from xs w p (i + 1)) ≡ false =
       next_proper
       ∙ ⊎_elim
       (λ none. and_right (not (has_key (get_or xs at 0) (blocks_from xs w p i))) _ (le-ltb 0 _ (omega arith)))
       (λ met.
-      let own = holds_known table (keys_of (blocks_from xs w p i)) k.keys (get_or xs at 0) slot q met in
+      let own = holds_known table (keys_of (blocks_from xs w p i)) k.keys (get_or xs at 0) slot q met.0 met.1 in
       and_left _ _ (ap not (has_key_at (get_or xs at 0) _ (blocks_from xs w p i) own.0 own.1)))
       h in
       ap proper_register (sym (blocks_from_split xs w p (i + 1) n (omega arith))) ∙ improper_longer (blocks_from xs w p (i + 1)) _ more
 
   -- else it is entered
-  pub noting_more : (slot : ℕ) → i < n → Probed table (get_or xs at 0) slot → (get_or table slot free).entry ≡ 0 → (get_or xs (at + 1) 0 ≡ 0 → ⊥) → Noting xs w p n (i + 1) (block_end xs w at) (set table slot (entered (get_or xs at 0) i)) (set places i at)
+  pub noting_more : (slot : ℕ) → i < n → Probed table (get_or xs at 0) slot → slot_at table slot ≡ None → (get_or xs (at + 1) 0 ≡ 0 → ⊥) → Noting xs w p n (i + 1) (block_end xs w at) (set table slot (slot_of (get_or xs at 0) i)) (set places i at)
   noting_more slot l q u r =
       let new : has_key (get_or xs at 0) (blocks_from xs w p i) ≡ false =
       has_key_none (get_or xs at 0) (blocks_from xs w p i) (holds_unknown table (keys_of (blocks_from xs w p i)) k.keys (get_or xs at 0) slot q u) in
@@ -137,8 +149,8 @@ module _ (xs : List ℕ) (w p n i at : ℕ) (table : List Slot) (places : List �
         place = ap (block_end xs w) k.place ∙ sym (block_place_more xs w p i);
         proper = next_proper ∙ and_from _ _ (ap not new) (lt-ltb 0 _ (omega arith));
         keys =
-            subst (λ (ks : List ℕ). Holds (set table slot (entered (get_or xs at 0) i)) ks) (sym next_keys)
-            (subst (λ (m : ℕ). Holds (set table slot (entered (get_or xs at 0) m)) (keys_of (blocks_from xs w p i) ++ get_or xs at 0 ∷ [])) length_keys
+            subst (λ (ks : List ℕ). Holds (set table slot (slot_of (get_or xs at 0) i)) ks) (sym next_keys)
+            (subst (λ (m : ℕ). Holds (set table slot (slot_of (get_or xs at 0) m)) (keys_of (blocks_from xs w p i) ++ get_or xs at 0 ∷ [])) length_keys
             (holds_more table (keys_of (blocks_from xs w p i)) k.keys (get_or xs at 0) slot q u));
         noted = below_more (λ j. get_or (set places i at) j 0 ≡ block_place xs w p j) i
             (λ j b. get_or-set_other places i j at 0 (λ same. omega arith) ∙ k.noted j b)
@@ -157,15 +169,15 @@ module _ (xs : List ℕ) (w p n i at : ℕ) (table : List Slot) (places : List �
       )
 
 -- so it is proper, and entered
-pub entered_ends : (xs : List ℕ) (section : Section) (t table : List Slot) (ps places : List ℕ) (i at : ℕ) → Awaits xs section t ps → Noting xs section.columns (section.place + 2) section.blocks i at table places → section.blocks ≤ i → i ≤ section.blocks → (proper_register (register_at xs section.place) ≡ true) × Entered xs section.place table places
-entered_ends xs section t table ps places i at a k l m =
+pub entered_ends : (xs : List ℕ) (section : Section) (table : List Slot) (places : List ℕ) (i at : ℕ) → Stands xs section → Noting xs section.columns (section.place + 2) section.blocks i at table places → section.blocks ≤ i → i ≤ section.blocks → (proper_register (register_at xs section.place) ≡ true) × Entered xs section.place table places
+entered_ends xs section table places i at a k l m =
     let ends = noting_ends xs section.columns (section.place + 2) section.blocks i at table places k l m in
-    let same = stands_register xs section a.stands in (
+    let same = stands_register xs section a in (
       ap proper_register (sym same) ∙ ends.0,
       record {
         keys = subst (λ (bs : Register). Holds table (keys_of bs)) same ends.1;
         noted = λ j l.
-            ends.2 j (omega (arith, stands_blocks xs section a.stands))
-            ∙ ap (λ (w : ℕ). block_place xs w (section.place + 2) j) (stands_columns xs section a.stands);
+            ends.2 j (omega (arith, stands_blocks xs section a))
+            ∙ ap (λ (w : ℕ). block_place xs w (section.place + 2) j) (stands_columns xs section a);
       },
     )

@@ -1,24 +1,25 @@
 -- Entering register after register: the tables that stand are kept, and the slots behind them are free.
-use Rattle.std.proofs.Common.{◌≡◌, ℕ, zero, suc, ◌+◌, ◌-◌, ◌*◌, ◌<◌, ◌≤◌, Bool, true, false, cond, ltb, List, length, get_or, take, drop, replicate, Some, None, Option, sym, refl, ap, ◌∙◌, subst, ap₂, ⊎_elim, arith, below_more}
+use Rattle.std.proofs.Common.{◌≡◌, ℕ, zero, suc, ◌+◌, ◌-◌, ◌*◌, ◌<◌, ◌≤◌, Bool, true, false, cond, ltb, List, map, length, get_or, take, drop, replicate, Some, None, Option, sym, refl, ap, ◌∙◌, subst, ap₂, ⊎_elim, arith, below_more}
 use borrow.Rule.Slice.PartMut.{put_mid}
-use Rattle.std.specs.List.{between}
-use Rattle.std.proofs.lemmas.List.FromFn.{get_or-map-range_with_len}
-use Rattle.std.proofs.lemmas.List.{drop-drop, drop-replicate, length-append, length-drop, length-take, take-replicate}
+use Rattle.std.specs.List.{between, range_with_len}
+use Rattle.std.proofs.lemmas.List.FromFn.{get_or-map-range_with_len, length-map-range_with_len}
+use Rattle.std.proofs.lemmas.List.{drop-drop, drop-replicate, get_or_past, length-append, length-drop, length-take, take-replicate}
 use Rattle.std.proofs.lemmas.Slice.{between_is, between-put_mid, drop-put_mid, take-put_mid_below}
-use Rattle.std.proofs.lemmas.Bool.{cases_eq, cond-true, lt-ltb}
+use Rattle.std.proofs.lemmas.Bool.{cases_eq, cases_lt, cond-false, cond-true, le-ltb, lt-ltb}
 use Rattle.std.proofs.lemmas.Bool.Decides.{nat_tests}
 use Rattle.registers.specs.declared.layout.Section.{Section}
 use Rattle.registers.specs.declared.layout.Directory.{Directory}
-use Rattle.registers.specs.declared.table.Slot.{Slot}
+use Rattle.registers.specs.declared.registers.Registers.{Registers}
 use Rattle.registers.specs.declared.refusals.Refusal.TheVariants.{Layout, Blocks}
 use Rattle.registers.specs.Base.{proper_register}
-use Rattle.registers.specs.Indexing.{Awaits, Enough, Entered, Indexed, Room, Stands, table_place}
+use Rattle.registers.specs.Indexing.{Enough, Entered, Indexed, Room, table_place}
 use Rattle.registers.specs.Layout.{blocks_at, blocks_before, columns_at, count_of, register_at, register_place}
 use Rattle.registers.specs.Refusals.{count_fits, first_failing, misfit, misstated, or_else, refusal, refused_at, register_fits}
 use Rattle.registers.specs.Survey.{directory_of, no_section, section_at, section_of}
-use Rattle.registers.specs.Table.{free}
+use Rattle.registers.specs.Table.{Slot, free}
 use Rattle.registers.proofs.Fitting.{fit_from}
-use Rattle.registers.proofs.Surveying.{blocks_before_more, first_failing_is, first_failing_more}
+use Rattle.registers.proofs.Noting.{Stands}
+use Rattle.registers.proofs.Surveying.{blocks_before_more, register_place_more, first_failing_is, first_failing_more}
 
 -- where nothing fails, each test passes
 pub first_failing_none : (f : ℕ → Bool) (n t : ℕ) → first_failing f n ≡ None → t < n → f t ≡ true
@@ -152,34 +153,78 @@ pub turn_stands : (xs : List ℕ) (t : ℕ) (section : Section) (m n : ℕ) → 
 turn_stands xs t section m n u is =
     record { fits = ap (register_fits xs) u.place ∙ u.fits; section_is = is ∙ ap₂ (section_at xs) (sym u.place) (sym u.first) }
 
+-- the largest room is enough for all registers
+pub enough_all : (xs : List ℕ) (directory : Directory) → misfit xs ≡ None → directory ≡ directory_of xs → Enough xs directory 65544 32768
+enough_all xs directory e h =
+    let few = blocks_few xs e in
+    record { fits = e; surveyed = h; slots_enough = omega arith; places_enough = omega arith }
+
+-- where the t-th of registers that are all there stands, and how many there are
+pub there : (r : Registers) (t : ℕ) (section : Section) → t < r.directory.count → section ≡ get_or r.directory.sections t no_section → Turn r.base.now t section 65544 32768 × Stands r.base.now section
+there r t section l is =
+    let u = turn_at r.base.now r.directory 65544 32768 t (enough_all r.base.now r.directory r.fits r.surveyed) l in
+    let turned = subst (λ (s : Section). Turn r.base.now t s 65544 32768) (sym is) u.0 in
+    (turned, turn_stands r.base.now t section 65544 32768 turned (is ∙ u.1))
+
+pub there_count : (r : Registers) → r.directory.count ≡ count_of r.base.now
+there_count r = enough_count r.base.now r.directory 65544 32768 (enough_all r.base.now r.directory r.fits r.surveyed)
+
+pub there_some : (r : Registers) → 1 ≤ r.directory.count
+there_some r = omega (arith, there_count r, count_some r.base.now (misfit_none r.base.now r.fits).0)
+
+-- beyond the last none stands
+pub there_none : (r : Registers) (t : ℕ) → r.directory.count ≤ t → get_or r.directory.sections t no_section ≡ no_section
+unfolding directory_of
+there_none r t h =
+    let f : ℕ → Section = λ i. cond (ltb i (count_of r.base.now)) (section_of r.base.now i) no_section in
+    ap (λ (d : Directory). get_or d.sections t no_section) r.surveyed
+    ∙ ⊎_elim
+    (λ below.
+    get_or-map-range_with_len f 0 8 t t no_section below (omega arith)
+    ∙ cond-false (ltb t (count_of r.base.now)) (section_of r.base.now t) no_section (le-ltb t (count_of r.base.now) (omega (arith, there_count r))))
+    (λ beyond. get_or_past (map f (range_with_len 0 8)) t no_section (omega (arith, length-map-range_with_len f 0 8)))
+    (cases_lt t 8)
+
+-- the last one ends where the numbers behind all registers begin
+pub there_end : (r : Registers) (t : ℕ) → t + 1 ≡ r.directory.count → (get_or r.directory.sections t no_section).end ≡ register_place r.base.now (count_of r.base.now)
+there_end r t e =
+    let u = turn_at r.base.now r.directory 65544 32768 t (enough_all r.base.now r.directory r.fits r.surveyed) (omega arith) in
+    ap (λ (s : Section). s.end) u.1 ∙ sym (register_place_more r.base.now t) ∙ ap (register_place r.base.now) (e ∙ there_count r)
+
+-- room that is enough for as many blocks is enough for them
+pub there_enough : (r : Registers) (b slots places : ℕ) → r.directory.blocks ≤ b → 2 * b + 8 ≤ slots → b ≤ places → Enough r.base.now r.directory slots places
+unfolding directory_of
+there_enough r b slots places l m n =
+    let blocks : r.directory.blocks ≡ blocks_before r.base.now (count_of r.base.now) = ap (λ (d : Directory). d.blocks) r.surveyed in
+    let few = blocks_few r.base.now r.fits in
+    record { fits = r.fits; surveyed = r.surveyed; slots_enough = omega arith; places_enough = omega arith }
+
 -- in a turn of the loop that fills the room
-pub turn : (xs : List ℕ) (directory : Directory) (slots : List Slot) (places : List ℕ) (m n t : ℕ) → Room xs directory slots places → t < directory.count → m ≡ length slots → n ≡ length places → Turn xs t (get_or directory.sections t no_section) m n × (get_or directory.sections t no_section ≡ section_of xs t)
-turn xs directory slots places m n t r l e f =
-    turn_at xs directory m n t
+pub turn : (xs : List ℕ) (directory : Directory) (slots : List Slot) (places : List ℕ) (m n t : ℕ) (section : Section) → Room xs directory slots places → t < directory.count → m ≡ length slots → n ≡ length places → section ≡ get_or directory.sections t no_section → Turn xs t section m n
+turn xs directory slots places m n t section r l e f is =
+    subst (λ (s : Section). Turn xs t s m n) (sym is)
+    (turn_at xs directory m n t
     (record {
       fits = r.enough.fits;
       surveyed = r.enough.surveyed;
       slots_enough = omega (arith, r.enough.slots_enough);
       places_enough = omega (arith, r.enough.places_enough);
-    }) l
+    }) l).0
 
 pub placed_none : (xs : List ℕ) (directory : Directory) (slots : List Slot) (places : List ℕ) → Room xs directory slots places → Placed xs 0 slots places
 unfolding first_failing blocks_before
 placed_none xs directory slots places r =
     record { proper = refl; entered = λ i l. absurd (omega arith); behind = r.slots_free ∙ ap (λ (n : ℕ). replicate n free) (omega arith) }
 
--- the t-th register awaits its entries
-pub placed_awaits : (xs : List ℕ) (t : ℕ) (section : Section) (slots : List Slot) (places : List ℕ) (from to first last : ℕ) → Placed xs t slots places → Turn xs t section (length slots) (length places) → section ≡ section_of xs t → from ≡ 2 * section.first + t → to ≡ from + 2 * section.blocks + 1 → first ≡ section.first → last ≡ first + section.blocks → Awaits xs section (between from to slots) (between first last places)
-placed_awaits xs t section slots places from to first last k u is e f g h =
-    let at : from ≡ table_place xs t = omega (arith, u.first) in
-    record {
-      stands = turn_stands xs t section (length slots) (length places) u is;
-      slots =
-          ap₂ (λ (n a : ℕ). take n (drop a slots)) (omega arith) at
+-- the slots of the t-th register are free, and there is a place for each of its blocks
+pub placed_awaits : (xs : List ℕ) (t : ℕ) (section : Section) (slots : List Slot) (places : List ℕ) (from to first last : ℕ) → Placed xs t slots places → Turn xs t section (length slots) (length places) → from ≡ 2 * section.first + t → to ≡ from + 2 * section.blocks + 1 → first ≡ section.first → last ≡ first + section.blocks → (between from to slots ≡ replicate (2 * section.blocks + 1) free) × (length (between first last places) ≡ section.blocks)
+placed_awaits xs t section slots places from to first last k u e f g h =
+    let at : from ≡ table_place xs t = omega (arith, u.first) in (
+      ap₂ (λ (n a : ℕ). take n (drop a slots)) (omega arith) at
           ∙ ap (take (2 * section.blocks + 1)) k.behind
-          ∙ take-replicate (2 * section.blocks + 1) (length slots - table_place xs t) free (omega (arith, u.table));
-      room = length-take (last - first) (drop first places) ∙ omega (arith, length-drop first places, u.noted);
-    }
+          ∙ take-replicate (2 * section.blocks + 1) (length slots - table_place xs t) free (omega (arith, u.table)),
+      length-take (last - first) (drop first places) ∙ omega (arith, length-drop first places, u.noted),
+    )
 
 -- one register more
 pub placed_more : (xs : List ℕ) (t : ℕ) (section : Section) (slots table : List Slot) (places noted : List ℕ) (from to first last : ℕ) → Placed xs t slots places → Turn xs t section (length slots) (length places) → from ≡ 2 * section.first + t → to ≡ from + 2 * section.blocks + 1 → first ≡ section.first → last ≡ first + section.blocks → length table ≡ to - from → length noted ≡ last - first → proper_register (register_at xs section.place) ≡ true → Entered xs section.place table noted → Placed xs (t + 1) (put_mid from (to - from) slots table) (put_mid first (last - first) places noted)

@@ -1,6 +1,6 @@
 -- Going over the registers of a slice: the first that fails a test, and where those stand that were passed.
-use Rattle.std.proofs.Common.{◌≡◌, ℕ, zero, suc, ◌+◌, ◌*◌, ◌<◌, ◌≤◌, Bool, true, false, cond, ltb, leb, List, [], ◌∷◌, length, get_or, drop, set, replicate, Some, None, Ok, Err, Option, sym, refl, ap, ◌∙◌, ap₂, ⊎_elim, add-one, arith}
-use Rattle.std.proofs.lemmas.List.{get_or-set_same, get_or-set_other, length-set, get_or-replicate}
+use Rattle.std.proofs.Common.{◌≡◌, ℕ, zero, suc, ◌+◌, ◌*◌, ◌<◌, ◌≤◌, Bool, true, false, cond, ltb, leb, List, [], ◌∷◌, length, get_or, take, drop, set, ◌++◌, replicate, length-append, Some, None, Ok, Err, Option, slice_get, sym, refl, ap, subst, ◌∙◌, ap₂, ⊎_elim, add-one, arith}
+use Rattle.std.proofs.lemmas.List.{get_or-set_same, get_or-set_other, length-set, length-take, get_or-replicate, set-append_left, take-append-drop}
 use Rattle.std.proofs.lemmas.List.FromFn.{fill_by_all}
 use Rattle.std.proofs.lemmas.Bool.{cases_eq, cond-true, cond-false}
 use Rattle.std.proofs.lemmas.Bool.Decides.{nat_tests}
@@ -77,6 +77,22 @@ passed_more xs t at blocks sections k h f =
           (cases_eq i t);
     }
 
+-- the same where the registers that are to be noted stand apart from the places that are left over
+pub passed_begins : (xs : List ℕ) (n : ℕ) → n ≤ 8 → 1 ≤ run xs → (length (take n (replicate 8 no_section)) ≡ n) × Passed xs 0 1 0 (take n (replicate 8 no_section) ++ drop n (replicate 8 no_section))
+passed_begins xs n few h = (
+  length-take n (replicate 8 no_section) ∙ omega arith,
+  subst (Passed xs 0 1 0) (sym (take-append-drop n (replicate 8 no_section))) (passed_none xs h),
+)
+
+pub passed_item : (xs : List ℕ) (t at blocks n : ℕ) (items left : List Section) → (length items ≡ n) × Passed xs t at blocks (items ++ left) → t < n → register_fits xs at ≡ true → (length (set items t (section_at xs at blocks)) ≡ n) × Passed xs (t + 1) (register_end xs at) (blocks + blocks_at xs at) (set items t (section_at xs at blocks) ++ left)
+passed_item xs t at blocks n items left k h f = (
+  length-set items t _ ∙ k.0,
+  subst
+      (Passed xs (t + 1) (register_end xs at) (blocks + blocks_at xs at))
+      (set-append_left items left t _ (omega (arith, k.0)))
+      (passed_more xs t at blocks (items ++ left) k.1 (omega (arith, k.0, k.1.wide, length-append items left)) f),
+)
+
 -- where the survey stops, and where it comes to the end
 pub misfit_count : (xs : List ℕ) → count_fits xs ≡ false → misfit xs ≡ Some 8
 unfolding misfit
@@ -98,13 +114,13 @@ misfit_ends xs t at blocks sections k e c =
     ∙ small_drop xs at k.reached (omega (arith, k.reached, run_le_length xs)) in
     simp (c, none, small-tail)
 
-pub directory_ends : (xs : List ℕ) (t at blocks : ℕ) (sections : List Section) → Passed xs t at blocks sections → t ≡ count_of xs → record { count = count_of xs; blocks = blocks; sections = sections } ≡ directory_of xs
+pub directory_ends : (xs : List ℕ) (n t at blocks : ℕ) (sections : List Section) → Passed xs t at blocks sections → n ≡ count_of xs → t ≡ count_of xs → record { count = n; blocks = blocks; sections = sections } ≡ directory_of xs
 unfolding directory_of
-directory_ends xs t at blocks sections k e =
-    ap₂ (λ (b : ℕ) (s : List Section). record { count = count_of xs; blocks = b; sections = s })
-    (k.total ∙ ap (blocks_before xs) e)
-    (fill_by_all (λ i. cond (ltb i (count_of xs)) (section_of xs i) no_section) sections 8 no_section k.wide
-    (λ i l. k.noted i l ∙ ap (λ (n : ℕ). cond (ltb i n) (section_of xs i) no_section) e))
+directory_ends xs n t at blocks sections k c e =
+    let total = k.total ∙ ap (blocks_before xs) e in
+    let noted = fill_by_all (λ i. cond (ltb i (count_of xs)) (section_of xs i) no_section) sections 8 no_section k.wide
+    (λ i l. k.noted i l ∙ ap (λ (m : ℕ). cond (ltb i m) (section_of xs i) no_section) e) in
+    λ i. record { count = c i; blocks = total i; sections = noted i }
 
 -- the answer that is told where a test fails at some place, and where it fails at none
 pub told_at : {A : Type 0} (f : ℕ → Refusal) (o : Option ℕ) (t : ℕ) (a : A) → o ≡ Some t → Err (f t) ≡ answered (refused_at f o) a
@@ -117,3 +133,12 @@ told_ok f o x a e h = simp (e, h)
 pub run_begins : (xs : List ℕ) → 1 ≤ length xs → get_or xs 0 0 ≤ 8 → 1 ≤ run xs
 run_begins [] h l = absurd (omega arith)
 run_begins (x ∷ xs) h l = let e : ltb x 4294967296 ≡ true = grind (arith, nat_tests) in rw e (omega arith)
+
+-- what the first number of a slice tells of it
+pub first_none : (xs : List ℕ) → None ≡ slice_get xs 0 → length xs ≡ 0
+first_none [] e = refl
+first_none (x ∷ xs) e = let z : ◌≡◌ {A = ℕ} 0 1 = cc in absurd (omega arith)
+
+pub first_some : (xs : List ℕ) (x : ℕ) → Some x ≡ slice_get xs 0 → (1 ≤ length xs) × (x ≡ count_of xs)
+first_some [] x e = let z : ◌≡◌ {A = ℕ} 0 1 = cc in absurd (omega arith)
+first_some (y ∷ xs) x e = (omega arith, cc)

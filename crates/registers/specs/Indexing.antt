@@ -3,13 +3,11 @@
 use Rattle.std.specs.Prelude.{◌≡◌, ℕ, ◌+◌, ◌*◌, ◌<◌, ◌≤◌, true, false, cond, List, [], ◌∷◌, map, length, replicate, Some, None, Option, ◌==◌, slice_index}
 use Rattle.std.specs.List.{between}
 use Rattle.registers.specs.declared.layout.Directory.{Directory}
-use Rattle.registers.specs.declared.layout.Section.{Section}
-use Rattle.registers.specs.declared.table.Slot.{Slot}
 use Rattle.registers.specs.Base.{Register, block, has_key, rows_under}
 use Rattle.registers.specs.Layout.{block_place, blocks_at, blocks_before, columns_at, count_of, register_at, register_place}
-use Rattle.registers.specs.Refusals.{misfit, refusal, register_fits}
-use Rattle.registers.specs.Survey.{directory_of, section_at}
-use Rattle.registers.specs.Table.{Holds, free}
+use Rattle.registers.specs.Refusals.{misfit, refusal}
+use Rattle.registers.specs.Survey.{directory_of}
+use Rattle.registers.specs.Table.{Holds, Slot, free}
 
 abbrev pub one_more : Option ℕ → Option ℕ
 one_more None = None
@@ -34,17 +32,6 @@ keys_of bs = map (λ b. b.key) bs
 -- where the table of the t-th register begins
 abbrev pub table_place : List ℕ → ℕ → ℕ
 table_place xs t = 2 * blocks_before xs t + t
-
--- a register that is there
-pub record Stands (xs : List ℕ) (section : Section) : Type 0 where
-  pub fits : register_fits xs section.place ≡ true
-  pub section_is : section ≡ section_at xs section.place section.first
-
--- room for a register that is there: slots that are free, and places for its blocks
-pub record Awaits (xs : List ℕ) (section : Section) (table : List Slot) (places : List ℕ) : Type 0 where
-  pub stands : Stands xs section
-  pub slots : table ≡ replicate (2 * section.blocks + 1) free
-  pub room : length places ≡ section.blocks
 
 -- a register that is entered
 pub record Entered (xs : List ℕ) (p : ℕ) (table : List Slot) (places : List ℕ) : Type 0 where

@@ -1,7 +1,8 @@
 -- Which slices stand for no registers, and with which refusal they are turned away. Assumes nothing: these are
 -- definitions.
-use Rattle.std.specs.Prelude.{ℕ, zero, suc, ◌+◌, Bool, true, cond, ◌&&◌, List, [], ◌∷◌, length, drop, Some, None, Ok, Err, Option, Result, nat_le, nat_lt, slice_index}
+use Rattle.std.specs.Prelude.{ℕ, zero, suc, ◌+◌, Bool, true, cond, ◌&&◌, List, [], ◌∷◌, ◌++◌, codes, length, drop, Some, None, Ok, Err, Option, Result, nat_le, nat_lt, slice_index}
 use Rattle.std.specs.List.{between}
+use Rattle.std.specs.Fmt.{decimal}
 use Rattle.registers.specs.declared.refusals.Refusal.{Refusal}
 use Rattle.registers.specs.declared.refusals.Refusal.TheVariants.{Layout, Blocks}
 use Rattle.registers.specs.Base.{proper_register}
@@ -16,6 +17,10 @@ number (Blocks t) = 2
 abbrev pub place : Refusal → ℕ
 place (Layout t) = t
 place (Blocks t) = t
+
+-- the words in which the programs tell it
+abbrev pub words : Refusal → List ℕ
+words r = codes "refused " ++ decimal (number r) ++ codes " " ++ decimal (place r)
 
 -- an answer, or the refusal in its place
 abbrev pub answered : {A : Type 0} → Option Refusal → A → Result A Refusal

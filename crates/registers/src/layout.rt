@@ -1,12 +1,14 @@
 // Where the registers of a slice stand, and whether they are all there.
-ghost use Rattle.std.specs.Prelude.{◌≡◌, ℕ, ◌<◌, ◌≤◌, length, if◌then◌else◌, Some, None, nat_lt, slice_index};
+ghost use Rattle.std.specs.Prelude.{◌≡◌, ℕ, ◌+◌, ◌*◌, ◌^◌, ◌<◌, ◌≤◌, length, if◌then◌else◌, Some, None, MatchResult, nat_lt, slice_index};
 ghost use Rattle.std.specs.List.{prefix_len};
 ghost use Rattle.registers.specs.declared.refusals.Refusal.TheVariants.{Layout};
-ghost use Rattle.registers.specs.Layout.{block_place};
-ghost use Rattle.registers.specs.Refusals.{answered, blocks_fit, misfit, refused_at, register_fits};
-ghost use Rattle.registers.specs.Survey.{directory_of, section_at};
+ghost use Rattle.registers.specs.Layout.{block_end, block_place};
+ghost use Rattle.registers.specs.Refusals.{block_fits, blocks_fit, misfit, refused_at, register_fits};
+ghost use Rattle.registers.specs.Survey.{section_at};
 
 use crate::refusals::Refusal;
+use crate::registers::Registers;
+use std::ops::Range;
 
 pub const MAX_REGISTERS: usize = 8;
 
@@ -31,7 +33,37 @@ pub struct Section {
     pub first: usize,
 }
 
-// All registers of a slice.
+impl Section {
+    // What stands where there is no register. The definitions name it too, so no `Default` is derived.
+    pub(crate) const NONE: Section = Section {
+        place: 0,
+        end: 0,
+        blocks: 0,
+        columns: 0,
+        first: 0,
+    };
+
+    // Which slots are the table of the register, the t-th of all.
+    pub(crate) fn table(&self, t: usize) -> Range<usize>
+        requires { 2 * self.now.first + t + 2 * self.now.blocks + 1 < 2 ^ 64 }
+        ensures start { result.start ≡ 2 * self.now.first + t }
+        ensures end { result.end ≡ result.start + 2 * self.now.blocks + 1 }
+    {
+        let from = 2 * self.first + t;
+        from..from + 2 * self.blocks + 1
+    }
+
+    // Which places are those of its blocks.
+    pub(crate) fn noted(&self) -> Range<usize>
+        requires { self.now.first + self.now.blocks < 2 ^ 64 }
+        ensures start { result.start ≡ self.now.first }
+        ensures end { result.end ≡ result.start + self.now.blocks }
+    {
+        self.first..self.first + self.blocks
+    }
+}
+
+// All registers of a slice. Their sections stand in room for eight, since nothing is allocated here.
 #[derive(Clone, Copy)]
 pub struct Directory {
     // How many registers, and how many blocks in all of them.
@@ -40,7 +72,7 @@ pub struct Directory {
     pub sections: [Section; MAX_REGISTERS],
 }
 
-// The bits that any of the numbers has: no number is larger.
+// The bits that any of the numbers has: no number is larger. A fold would say the same in no fewer words.
 fn all_bits(numbers: &[u64]) -> u64
     ensures { (k : ℕ) → k < length numbers.now → slice_index numbers.now k ≤ result }
 {
@@ -59,33 +91,37 @@ fn before_large(numbers: &[u64]) -> usize
     if all_bits(numbers) < NUMBER_LIMIT {
         return numbers.len();
     }
-    for (i, x) in numbers.iter().enumerate() {
-        if *x >= NUMBER_LIMIT {
-            return i;
-        }
-    }
-    numbers.len()
+    numbers.iter().take_while(|x| **x < NUMBER_LIMIT).count()
 }
 
-// The place behind so many blocks from `start` on, if they are all there.
+// The place behind the block that begins at `at`, if it is all there.
+fn block_end(base: &[u64], at: usize, columns: usize) -> Option<usize>
+    requires { (at ≤ length base.now) × (columns ≤ 8) }
+    ensures { result ≡ (if block_fits base.now columns at then Some (block_end base.now columns at) else None) }
+{
+    if base.len() - at < 2 {
+        return None;
+    }
+    let rows = base[at + 1];
+    if rows > MAX_ROWS {
+        return None;
+    }
+    let end = at + 2 + rows as usize * columns;
+    if end > base.len() {
+        return None;
+    }
+    Some(end)
+}
+
+// The place behind so many blocks from `start` on, if they are all there: where a block ends is known from its heading
+// alone.
 fn blocks_end(base: &[u64], start: usize, blocks: usize, columns: usize) -> Option<usize>
     requires { (start ≤ length base.now) × (columns ≤ 8) }
     ensures { result ≡ (if blocks_fit base.now columns start blocks then Some (block_place base.now columns start blocks) else None) }
 {
     let mut at = start;
-    for _i in 0..blocks {
-        if base.len() - at < 2 {
-            return None;
-        }
-        let rows = base[at + 1];
-        if rows > MAX_ROWS {
-            return None;
-        }
-        let end = at + 2 + rows as usize * columns;
-        if end > base.len() {
-            return None;
-        }
-        at = end;
+    for _ in 0..blocks {
+        at = block_end(base, at, columns)?;
     }
     Some(at)
 }
@@ -106,9 +142,7 @@ fn section_at(base: &[u64], at: usize, first: usize, large: usize) -> Option<Sec
     }
     let blocks = blocks as usize;
     let columns = columns as usize;
-    let Some(end) = blocks_end(base, at + 2, blocks, columns) else {
-        return None;
-    };
+    let end = blocks_end(base, at + 2, blocks, columns)?;
     if end > large {
         return None;
     }
@@ -121,45 +155,34 @@ fn section_at(base: &[u64], at: usize, first: usize, large: usize) -> Option<Sec
     })
 }
 
-// Where all registers stand, or the refusal of a slice in which they are not all there.
-pub fn survey(base: &[u64]) -> Result<Directory, Refusal>
-    ensures { result ≡ answered (refused_at Layout (misfit base.now)) (directory_of base.now) }
+// The registers of a slice, and where they stand, or the refusal of a slice in which they are not all there.
+pub fn survey(base: &[u64]) -> Result<Registers, Refusal>
+    ensures { MatchResult result (λ r. r.base.now ≡ base.now) (λ e. refused_at Layout (misfit base.now) ≡ Some e) }
 {
     let none = Refusal::Layout {
         register: MAX_REGISTERS,
     };
-    if base.is_empty() {
-        return Err(none);
-    }
-    let count = base[0];
+    let count = *base.first().ok_or(none)?;
     if count == 0 || count > MAX_REGISTERS as u64 {
         return Err(none);
     }
     let count = count as usize;
     let large = before_large(base);
-    let mut sections = [Section {
-        place: 0,
-        end: 0,
-        blocks: 0,
-        columns: 0,
-        first: 0,
-    }; MAX_REGISTERS];
+    let mut sections = [Section::NONE; MAX_REGISTERS];
     let mut at = 1;
     let mut blocks = 0;
-    for t in 0..count {
-        let Some(section) = section_at(base, at, blocks, large) else {
-            return Err(Refusal::Layout { register: t });
-        };
-        sections[t] = section;
+    for (t, section) in sections[..count].iter_mut().enumerate() {
+        *section = section_at(base, at, blocks, large).ok_or(Refusal::Layout { register: t })?;
         at = section.end;
         blocks += section.blocks;
     }
     if large < base.len() {
         return Err(none);
     }
-    Ok(Directory {
+    let directory = Directory {
         count,
         blocks,
         sections,
-    })
+    };
+    Ok(Registers { base, directory })
 }

@@ -7,11 +7,14 @@
 
 pub mod blocks;
 mod entry;
+pub mod example;
 pub mod filling;
 pub mod index;
 pub mod layout;
 mod lookup;
+mod parts;
 pub mod refusals;
+pub mod registers;
 pub mod table;
 pub mod theorems;
 

@@ -1,28 +1,44 @@
 // Looking keys up in indexed registers, and going over their blocks and rows.
-ghost use Rattle.std.specs.Prelude.{◌≡◌, ◌<◌, [], length, slice_index_or};
+ghost use Rattle.std.specs.Prelude.{◌≡◌, ◌<◌, [], length, Some, None, MatchResult, slice_index_or};
 ghost use Rattle.registers.specs.Base.{block, register};
-ghost use Rattle.registers.specs.Indexing.{Indexed, Told, number_under};
+ghost use Rattle.registers.specs.Indexing.{Indexed, Room, Told, number_under};
+ghost use Rattle.registers.specs.Refusals.{refusal};
 ghost use Rattle.registers.specs.Views.{columns_in, held, indexed};
 
 use crate::blocks::Block;
 use crate::index::Index;
-use crate::layout::Directory;
-use crate::table::{Slot, probe};
+use crate::refusals::Refusal;
+use crate::registers::Registers;
+use crate::table::{Entry, probe};
+
+impl<'a> Registers<'a> {
+    // The index of the registers in room that is lent, or the refusal of registers in which a key has two blocks or a
+    // block has no row.
+    pub fn indexed(
+        self,
+        slots: &'a mut [Option<Entry>],
+        places: &'a mut [usize],
+    ) -> Result<Index<'a>, Refusal>
+        requires { Room self.base.now self.directory slots.old places.old }
+        ensures { MatchResult result (λ ix. (ix.registers.base.now ≡ self.entry.base.now) × (refusal self.entry.base.now ≡ None)) (λ e. refusal self.entry.base.now ≡ Some e) }
+    {
+        self.fill(slots, places)?;
+        Ok(Index::over(self, slots, places))
+    }
+}
 
 impl<'a> Index<'a> {
     // The index that stands in filled room.
     pub fn over(
-        base: &'a [u64],
-        directory: &'a Directory,
-        slots: &'a [Slot],
+        registers: Registers<'a>,
+        slots: &'a [Option<Entry>],
         places: &'a [usize],
     ) -> Index<'a>
-        requires { Indexed base.now directory.now slots.now places.now }
-        ensures { result.base.now ≡ base.now }
+        requires { Indexed registers.base.now registers.directory slots.now places.now }
+        ensures { result.registers.base.now ≡ registers.entry.base.now }
     {
         Index {
-            base,
-            directory,
+            registers,
             slots,
             places,
         }
@@ -32,22 +48,14 @@ impl<'a> Index<'a> {
     pub fn blocks(&self, t: usize) -> usize
         ensures { result ≡ length (register (indexed self.now) t) }
     {
-        if t < self.directory.count {
-            self.directory.sections[t].blocks
-        } else {
-            0
-        }
+        self.registers.section(t).blocks
     }
 
     // How many columns a register has; none where there is no such register.
     pub fn columns(&self, t: usize) -> usize
         ensures { result ≡ columns_in self.now t }
     {
-        if t < self.directory.count {
-            self.directory.sections[t].columns
-        } else {
-            0
-        }
+        self.registers.section(t).columns
     }
 
     // The number of the block under a key, counted from 0 in its register.
@@ -55,18 +63,13 @@ impl<'a> Index<'a> {
         ensures value { result ≡ number_under key (register (indexed self.now) t) }
         ensures means { Told key (register (indexed self.now) t) result }
     {
-        if t >= self.directory.count {
+        if t >= self.registers.directory.count {
             return None;
         }
-        let section = self.directory.sections[t];
-        let from = 2 * section.first + t;
-        let to = from + 2 * section.blocks + 1;
-        let table = &self.slots[from..to];
-        let slot = table[probe(table, key)];
-        if slot.entry == 0 {
-            return None;
-        }
-        Some(slot.entry - 1)
+        let section = self.registers.register(t).section;
+        let table = &self.slots[section.table(t)];
+        let entry = table[probe(table, key)]?;
+        Some(entry.block)
     }
 
     // The block of a number.
@@ -75,20 +78,8 @@ impl<'a> Index<'a> {
         ensures block { held result ≡ block (register (indexed self.now) t) number }
         ensures columns { result.columns ≡ columns_in self.now t }
     {
-        let section = self.directory.sections[t];
-        let columns = section.columns;
-        let at = self.places[section.first + number];
-        let rows = self.base[at + 1] as usize;
-        let from = at + 2;
-        let to = from + rows * columns;
-        let key = self.base[at];
-        let cells = &self.base[from..to];
-        Block {
-            key,
-            rows,
-            columns,
-            cells,
-        }
+        let register = self.registers.register(t);
+        register.block(self.places[register.section.first + number])
     }
 }
 

@@ -2,15 +2,11 @@
 ghost use Rattle.std.specs.Prelude.{◌≡◌, ◌^◌, ◌<◌};
 ghost use Rattle.registers.specs.Table.{Open, Probed, home_of};
 
-// A key and one more than the number of its block in the register; 0 where the slot is free.
+// A key, and the number of its block in the register. A slot holds one, or nothing.
 #[derive(Clone, Copy)]
-pub struct Slot {
+pub struct Entry {
     pub key: u64,
-    pub entry: usize,
-}
-
-impl Slot {
-    pub const FREE: Slot = Slot { key: 0, entry: 0 };
+    pub block: usize,
 }
 
 // Where a key's way begins in a table of so many slots: its upper bits times an odd constant, scaled to the table.
@@ -22,16 +18,19 @@ fn home(key: u64, slots: usize) -> usize
     ((mixed * slots as u64) >> 32) as usize
 }
 
-// The key's own slot or the first free one on its way.
-pub(crate) fn probe(table: &[Slot], key: u64) -> usize
+// The key's own slot or the first free one on its way. As a chain of the slots from its home on and those before, with
+// `find`, the bound of the index at each turn stayed open; so the loop goes round by hand.
+pub(crate) fn probe(table: &[Option<Entry>], key: u64) -> usize
     requires { Open table.now }
     ensures { Probed table.now key result }
 {
     let slots = table.len();
     let mut at = home(key, slots);
-    for _step in 0..slots {
-        let slot = table[at];
-        if slot.entry == 0 || slot.key == key {
+    for _ in 0..slots {
+        let Some(entry) = table[at] else {
+            return at;
+        };
+        if entry.key == key {
             return at;
         }
         at += 1;

@@ -3,16 +3,12 @@ ghost use Rattle.registers.specs.Example.{DamageRefused, ExampleStands};
 ghost use Rattle.registers.specs.Limits.{LimitsHold};
 
 // A slice that is not refused stands for registers within all limits.
-pub fn limits_hold() -> u8
+pub fn limits_hold()
     ensures { LimitsHold }
-{
-    0
-}
+{}
 
 // The definitions, tried on an example.
-pub fn example_stands() -> u8
+pub fn example_stands()
     ensures stands { ExampleStands }
     ensures refused { DamageRefused }
-{
-    0
-}
+{}

@@ -1,5 +1,5 @@
 use Rattle.std.proofs.Common.{◌≡◌, ◌++◌, take, drop}
-use Rattle.input_bytes.specs.Numbers.{numbers_of}
+use Rattle.input.specs.Numbers.{numbers_of}
 use Rattle.input_bytes.proofs.numbers.decode.Given as goal
 
 -- the places before this one hold the first numbers, and the others what they held

@@ -1,42 +1,46 @@
-use Rattle.std.proofs.Common.{◌≡◌, ℕ, ◌-◌, List, length, take, None, refl, ap, ◌∙◌, arith}
-use Rattle.registers.specs.Layout.{columns_of}
-use Rattle.registers.proofs.Checking.{answered_err, answered_ok}
-use Rattle.questions.specs.Reading.{outline_of}
-use Rattle.questions.specs.Refusals.{answered, of_registers, refusal_of, signs_refusal}
-use Rattle.questions.proofs.Columns.{count_few, length_widths, told_first, told_second, widths_are}
-use Rattle.questions.proofs.Meaning.{means}
+use Rattle.std.proofs.Common.{rules, ◌≡◌, Err, List, None, Some, Option, ℕ, length, take, sym, ap, ◌∙◌, subst, arith}
+use Rattle.std.proofs.lemmas.List.{length-take}
+use Rattle.registers.proofs.Ways.{none_some}
+use Rattle.questions.specs.declared.refusals.Refusal.{Refusal}
+use Rattle.questions.specs.declared.refusals.Refusal.TheVariants.{Registers}
+use Rattle.questions.specs.Meaning.{Means}
+use Rattle.questions.specs.Refusals.{answered}
+use Rattle.questions.proofs.Columns.{accepted_by, columns_by, length_widths, refused_by, refused_first, widths_few}
 use Rattle.questions.proofs.entry.check.Goals as goal
 
-pub returns-in-Err : goal.returns-in-Err
-unfolding refusal_of
-returns-in-Err c =
-    record {
-      value = told_first _ _ _ _ _ c.in-Err.ensures;
-      means = λ none.
-          let some = answered_err _ _ _ c.in-Err.ensures in
-          let z : ◌≡◌ {A = ℕ} 0 1 = cc in
-          absurd (omega arith);
-    }
+pub returns-in_err-registers : goal.returns-in_err-registers
+returns-in_err-registers c =
+    let told : c.from_residual.result ≡ Err (Registers c.in_err-registers.field-0.0) = search rules in
+    rw told
+    (record {
+      value = ap (λ (o : Option Refusal). answered o tt) (sym (refused_first _ c.args.signs.now _ c.in_err-registers.ensures));
+      means = λ none. absurd (none_some (sym none ∙ c.in_err-registers.ensures));
+    })
+
+pub slice_bounds-widths-end : goal.slice_bounds-widths-end
+slice_bounds-widths-end c =
+    omega (arith, widths_few c.in_ok-registers.registers, ap length c.widths-widths.ensures, length_widths c.in_ok-registers.registers.directory)
 
 pub slice_bounds-read-end : goal.slice_bounds-read-end
 slice_bounds-read-end c =
-    let sound = answered_ok _ _ _ c.in-Ok.ensures in
-    let few = count_few c.args.base.now c.in-Ok.directory sound.0 sound.1 in
-    omega (arith, few, ap length c.widths-widths.ensures, length_widths c.in-Ok.directory)
+    omega (arith, widths_few c.in_ok-registers.registers, ap length c.widths-widths.ensures, length_widths c.in_ok-registers.registers.directory, length-take c.in_ok-registers.registers.directory.count c.widths-widths.result)
 
-pub returns-in-Ok : goal.returns-in-Ok
-unfolding refusal_of
-returns-in-Ok c =
-    let sound = answered_ok _ _ _ c.in-Ok.ensures in
-    let all : c.in-Ok.directory.count - 0 ≡ c.in-Ok.directory.count = omega arith in
-    let columns : take (c.in-Ok.directory.count - 0) c.widths-widths.result ≡ columns_of c.args.base.now =
-    ap (λ (n : ℕ). take n c.widths-widths.result) all
-    ∙ ap (take c.in-Ok.directory.count) c.widths-widths.ensures
-    ∙ widths_are c.args.base.now c.in-Ok.directory sound.0 sound.1 in
-    let value =
-    c.read.ensures.value
-    ∙ ap (λ (ws : List ℕ). answered (signs_refusal ws c.args.signs.now) (outline_of ws c.args.signs.now)) columns in
+pub returns-in_err-read : goal.returns-in_err-read
+returns-in_err-read c =
+    let told : c.from_residual-in_err-read.result ≡ Err c.in_err-read.field-0.0 = search rules in
+    let sound = c.in_ok-registers.ensures in
+    let widths = ap (take c.in_ok-registers.registers.directory.count) c.widths-widths.ensures in
+    rw told
+    (record {
+      value = ap (λ (o : Option Refusal). answered o tt) (sym (refused_by c.in_ok-registers.registers _ _ _ _ sound.0 sound.1 widths c.in_err-read.ensures.value));
+      means = λ none. subst (λ (ws : List ℕ). Means ws c.args.signs.now (Some c.in_err-read.field-0.0)) (columns_by c.in_ok-registers.registers _ _ sound.0 widths) c.in_err-read.ensures.means;
+    })
+
+pub returns : goal.returns
+returns c =
+    let sound = c.in_ok-registers.ensures in
+    let widths = ap (take c.in_ok-registers.registers.directory.count) c.widths-widths.ensures in
     record {
-      value = c.and.ensures ∙ told_second _ _ _ _ _ (ap of_registers sound.0) value;
-      means = λ none. means (columns_of c.args.base.now) c.args.signs.now _ _ (c.and.ensures ∙ told_second None _ _ _ _ refl value);
+      value = ap (λ (o : Option Refusal). answered o tt) (sym (accepted_by c.in_ok-registers.registers _ _ _ c.in_ok-read.field-0 sound.0 sound.1 widths c.in_ok-read.ensures.value));
+      means = λ none. subst (λ (ws : List ℕ). Means ws c.args.signs.now None) (columns_by c.in_ok-registers.registers _ _ sound.0 widths) c.in_ok-read.ensures.means;
     }

@@ -1,49 +1,45 @@
-use Rattle.std.proofs.Common.{◌≡◌, Ok, ap, ◌∙◌, arith}
-use Rattle.questions.specs.Reading.{outline_of}
-use Rattle.questions.specs.Refusals.{answered, signs_refusal}
+use Rattle.std.proofs.Common.{rules, ◌≡◌, is_some, Err, refl, sym, ap, ◌∙◌, arith}
 use Rattle.questions.proofs.Meaning.{means}
 use Rattle.questions.proofs.Passing.{outcome_bounds}
-use Rattle.questions.proofs.Telling.{outlined, told_left, told_long, told_simple, told_twice, told_unread}
+use Rattle.questions.proofs.Telling.{outlined, told_left, told_long, told_unread, told_whole}
 use Rattle.questions.proofs.reading.read.Goals as goal
 
 pub returns-then-signs : goal.returns-then-signs
 returns-then-signs c =
-    let value = told_long c.args.widths.now c.args.signs.now (outline_of c.args.widths.now c.args.signs.now) c.if-signs.true in
-    record { value = value; means = means _ _ _ _ value }
+    let value = told_long c.args.widths.now c.args.signs.now c.if-signs.true in
+    record { value = value; means = means _ _ _ value }
 
-pub returns-in_default : goal.returns-in_default
-returns-in_default c =
-    let value : c.and.result ≡ answered (signs_refusal c.args.widths.now c.args.signs.now) (outline_of c.args.widths.now c.args.signs.now) =
-    c.and.ensures ∙ simp c.in_default.is (told_unread _ _ _ c.if-signs.false _ c.in_default.ensures.answer) in
-    record { value = value; means = means _ _ _ _ value }
+pub returns-in_err-count : goal.returns-in_err-count
+returns-in_err-count c =
+    let told : c.from_residual.result ≡ Err c.in_err-count.field-0.0 = search rules in
+    let value = told_unread _ _ c.if-signs.false _ (sym c.in_err-count.was ∙ c.question.ensures.answer) in
+    rw told (record { value = value; means = means _ _ _ value })
 
 pub overflow_mul-count : goal.overflow_mul-count
 overflow_mul-count c =
-    let bounds = outcome_bounds _ _ c.if-signs.false _ _ c.in-Ok.ensures.answer in
+    let bounds = outcome_bounds _ _ c.if-signs.false _ _ (sym c.in_ok-count.was ∙ c.question.ensures.answer) in
     omega (arith, bounds.1)
-
-pub gone_twice-requires : goal.gone_twice-requires
-gone_twice-requires c = omega arith
 
 pub returns-then-count-signs : goal.returns-then-count-signs
 returns-then-count-signs c =
-    let value =
-    told_left c.args.widths.now c.args.signs.now (outline_of c.args.widths.now c.args.signs.now) c.if-signs.false _
-    c.in-Ok.ensures.answer c.if-count-signs.true in
-    record { value = value; means = means _ _ _ _ value }
+    let value = told_left _ _ c.if-signs.false _ (sym c.in_ok-count.was ∙ c.question.ensures.answer) c.if-count-signs.true in
+    record { value = value; means = means _ _ _ value }
 
 pub returns-in-Some : goal.returns-in-Some
 returns-in-Some c =
-    let value =
-    told_twice c.args.widths.now c.args.signs.now (outline_of c.args.widths.now c.args.signs.now) c.if-signs.false _ _
-    c.in-Ok.ensures.answer c.if-count-signs.false c.in-Some.ensures in
-    record { value = value; means = means _ _ _ _ value }
+    let value = told_whole _ _ c.if-signs.false _ _ (sym c.in_ok-count.was ∙ c.question.ensures.answer) c.if-count-signs.false (sym c.in-Some.is ∙ c.gone_twice.ensures) in
+    record { value = value; means = means _ _ _ value }
+
+pub invariant_of-result : goal.invariant_of-result
+invariant_of-result c =
+    let answer = sym c.in_ok-count.was ∙ c.question.ensures.answer in
+    let none = told_whole _ _ c.if-signs.false _ _ answer c.if-count-signs.false (sym c.in_default.is ∙ c.gone_twice.ensures) in
+    record {
+      accepted = ap is_some none;
+      outlined = outlined _ _ c.if-signs.false _ _ answer c.if-count-signs.false c.question.array_long c.in_ok-count.ensures.noted;
+    }
 
 pub returns : goal.returns
 returns c =
-    let outline =
-    outlined c.args.widths.now c.args.signs.now c.if-signs.false c.in-Ok.count c.read_question-read.new.ends
-    c.in-Ok.ensures.answer c.if-count-signs.false c.read_question-read.auto.ends c.in-Ok.ensures.noted in
-    let value =
-    ap Ok outline ∙ told_simple _ _ _ c.if-signs.false _ c.in-Ok.ensures.answer c.if-count-signs.false c.in_default-gone_twice.ensures in
-    record { value = value; means = means _ _ _ _ value }
+    let none = told_whole _ _ c.if-signs.false _ _ (sym c.in_ok-count.was ∙ c.question.ensures.answer) c.if-count-signs.false (sym c.in_default.is ∙ c.gone_twice.ensures) in
+    record { value = (refl, refl); means = means _ _ _ none }

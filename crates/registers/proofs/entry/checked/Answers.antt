@@ -1,25 +1,16 @@
-use Rattle.std.proofs.Common.{◌∙◌}
-use Rattle.registers.specs.Refusals.{refusal}
-use Rattle.registers.proofs.Checking.{enough_all, surveyed_none, told_blocks, told_layout, told_sound}
+use Rattle.registers.specs.declared.registers.Registers.{Registers}
+use Rattle.registers.proofs.Checking.{answered_err, answered_ok, handed_on, refusal_blocks, refusal_layout}
 use Rattle.registers.proofs.entry.checked.Goals as goal
 
-pub returns-in_default : goal.returns-in_default
-unfolding refusal
-returns-in_default c = c.in_default.is ∙ told_layout _ _ _ _ _ c.in_default.ensures
+pub returns-in_err-registers : goal.returns-in_err-registers
+returns-in_err-registers c =
+    handed_on {T = Registers} c.from_residual.result _ _ _ c.from_residual.ensures.1 (refusal_layout _ _ c.in_err-registers.ensures)
 
-pub try_room-tried-requires : goal.try_room-tried-requires
-try_room-tried-requires c =
-    let none = surveyed_none _ _ _ c.in-Ok.ensures in
-    enough_all _ _ none.0 none.1
-
-pub returns-in_default-tried : goal.returns-in_default-tried
-unfolding refusal
-returns-in_default-tried c =
-    let none = surveyed_none _ _ _ c.in-Ok.ensures in
-    c.and.ensures ∙ simp c.in_default-tried.is (told_blocks _ _ _ _ _ none.0 c.in_default-tried.ensures)
+pub returns-in_err-try_all : goal.returns-in_err-try_all
+returns-in_err-try_all c =
+    handed_on {T = Registers} c.from_residual-in_err-try_all.result _ _ _ c.from_residual-in_err-try_all.ensures.1
+    (refusal_blocks c.in_ok-registers.registers _ _ c.in_ok-registers.ensures (answered_err _ _ _ c.in_err-try_all.ensures))
 
 pub returns : goal.returns
-unfolding refusal
 returns c =
-    let none = surveyed_none _ _ _ c.in-Ok.ensures in
-    told_sound _ _ _ _ _ none.0 c.in-Ok-tried.ensures none.1
+    (c.in_ok-registers.ensures, refusal_blocks c.in_ok-registers.registers _ _ c.in_ok-registers.ensures (answered_ok _ _ _ c.in_ok-try_all.ensures).0)

@@ -18,14 +18,14 @@ returns-then-blocks-gt-MAX_BLOCKS c =
     sym (cond-false _ _ _
     (register_fits_limits c.args.base.now c.args.at (λ a b d. omega (arith, c.then-blocks-gt-MAX_BLOCKS.either))))
 
-pub returns-in_default : goal.returns-in_default
-returns-in_default c =
-    sym (cond-false _ _ _ (register_fits_cut c.args.base.now c.args.at (from_none _ _ c.in_default.ensures)))
+pub returns-in_err-end : goal.returns-in_err-end
+returns-in_err-end c =
+    c.from_residual.ensures ∙ sym (cond-false _ _ _ (register_fits_cut c.args.base.now c.args.at (from_none _ _ c.in_err-end.ensures)))
 
 pub returns-then-end-large : goal.returns-then-end-large
 unfolding register_end
 returns-then-end-large c =
-    let got = from_some _ _ _ c.in-Some.ensures in
+    let got = from_some _ _ _ c.in_ok-end.ensures in
     sym (cond-false _ _ _
     (register_fits_there c.args.base.now c.args.at (omega arith) (omega (arith, run_le_length c.args.base.now)) c.if-blocks-gt-MAX_BLOCKS.false (omega arith) c.if-columns-gt-MAX_COLUMNS.false got.0
     ∙ lt-leb (register_end c.args.base.now c.args.at) (run c.args.base.now) (omega arith)))
@@ -33,7 +33,7 @@ returns-then-end-large c =
 pub returns : goal.returns
 unfolding register_end
 returns c =
-    let got = from_some _ _ _ c.in-Some.ensures in
+    let got = from_some _ _ _ c.in_ok-end.ensures in
     let fits : register_fits c.args.base.now c.args.at ≡ true =
     register_fits_there c.args.base.now c.args.at (omega arith) (omega (arith, run_le_length c.args.base.now)) c.if-blocks-gt-MAX_BLOCKS.false (omega arith) c.if-columns-gt-MAX_COLUMNS.false got.0
     ∙ le-leb (register_end c.args.base.now c.args.at) (run c.args.base.now) (omega arith) in

@@ -1,19 +1,26 @@
-use Rattle.std.proofs.Common.{◌≡◌, ℕ, ◌+◌, cond, eqb, length, sym, subst, arith}
+use Rattle.std.proofs.Common.{◌≡◌, ℕ, ◌+◌, cond, eqb, length, sym, ap, ◌∙◌, subst, arith}
 use Rattle.std.proofs.lemmas.Bool.Decides.{nat_tests}
-use Rattle.registers.proofs.Ways.{Probing, probing_ends, probing_more, probing_none}
+use Rattle.registers.proofs.Ways.{Probing, key_in, probing_ends, probing_found, probing_more, probing_none}
 use Rattle.registers.proofs.table.probe.Goals as goal
 use Rattle.registers.proofs.table.probe.Goals.{then-at-slots, else-at-slots}
 
-pub loop-step-init : goal.loop-step-init
-loop-step-init c =
+pub loop-init : goal.loop-init
+loop-init c =
     subst (λ (a : ℕ). Probing c.args.table.now c.args.key 0 a) (sym c.home-at.ensures)
     (probing_none _ _ (omega (arith, c.requires.room)))
 
-pub loop-step-preserved : goal.loop-step-preserved
-loop-step-preserved c =
-    let next : c.if-at-slots.at ≡ cond (eqb (c.loop-step.at + 1) (length c.args.table.now)) 0 (c.loop-step.at + 1) =
+pub returns-in_default : goal.returns-in_default
+returns-in_default c = probing_found _ _ _ _ c.loop.invariant c.loop-test.true (λ e h. absurd (c.in_default.not-Some e h))
+
+pub returns-then-entry-key : goal.returns-then-entry-key
+returns-then-entry-key c =
+    probing_found _ _ _ _ c.loop.invariant c.loop-test.true (λ e h. ap key_in (sym h ∙ c.in-Some.is) ∙ c.if-entry-key.true)
+
+pub loop-preserved : goal.loop-preserved
+loop-preserved c =
+    let next : c.if-at-slots.at ≡ cond (eqb (c.loop.at + 1) (length c.args.table.now)) 0 (c.loop.at + 1) =
     elim c.if-at-slots.branch [ then-at-slots w ↦ grind (arith, nat_tests, w.at-is, w.if-at-slots.true) | else-at-slots w ↦ grind (arith, nat_tests, w.at-is, w.if-at-slots.false) ] in
-    probing_more _ _ _ c.loop-step.at _ c.loop-step.invariant c.loop-step-test.true c.if-slot-eq0.false c.if-slot-key.false next
+    probing_more _ _ _ c.loop.at _ _ c.loop.invariant c.loop-test.true c.in-Some.is c.if-entry-key.false next
 
 pub unreachable-requires : goal.unreachable-requires
-unreachable-requires c = probing_ends _ _ _ _ c.loop-step.invariant c.loop-step-test.false c.requires
+unreachable-requires c = probing_ends _ _ _ _ c.loop.invariant c.loop-test.false c.requires

@@ -1,18 +1,41 @@
-use Rattle.std.proofs.Common.{◌+◌, ◌≤◌, length, refl, arith}
-use Rattle.std.proofs.lemmas.List.{take_all, take_more}
-use Rattle.input.proofs.Parts.{added_four, added_more, take_four}
+use Rattle.std.proofs.Common.{◌≡◌, ℕ, List, ◌++◌, length, vec_items, sym, ap, ◌∙◌, arith, append_assoc, length-append}
+use Rattle.input.specs.declared.numbers.Numbers.{Numbers}
+use Rattle.input.specs.Held.{Added}
+use Rattle.input.specs.Numbers.{numbers_of, rest_of}
+use Rattle.input.proofs.Parts.{added, length_rest, rest_short}
+use Rattle.input.proofs.Chunks.{whole_of, whole_rest, whole_behind}
 use Rattle.input.proofs.numbers.Numbers.add.Goals as goal
 
-pub loop-at-preserved-then-part-at-ge-WIDTH : goal.loop-at-preserved-then-part-at-ge-WIDTH
-loop-at-preserved-then-part-at-ge-WIDTH c =
-    let inside : c.loop-at.at + 4 ≤ length c.args.part.now = omega arith in
-    let more = added_four _ _ _ _ _ c.loop-at.self _ c.if-is_empty.ensures c.number-number.ensures c.in_ok-push.ensures.items refl in
-    (inside, added_more _ _ _ _ _ _ (take_four c.args.part.now c.loop-at.at inside) c.loop-at.invariant.1 more)
+pub put-requires-2 : goal.put-requires-2
+put-requires-2 c =
+    let back : List ℕ = c.split_at.result.1.now in
+    let short = rest_short back in
+    let l = length_rest back in
+    let pushed = c.push_numbers-rest.ensures in
+    let m : length c.push_numbers-rest.result.now ≡ length (rest_of back) = ap length pushed.rest in
+    let n = ap length pushed.numbers ∙ length-append (vec_items c.put.new.self.items) (numbers_of back) in
+    let begun = c.put.new.self.rest.short in
+    record { few = omega arith; room = omega arith }
 
-pub loop-at-preserved : goal.loop-at-preserved
-loop-at-preserved c =
-    let next = take_more c.args.part.now c.loop-at.at 0 c.loop-at-test.true in
-    (omega arith, added_more _ _ _ _ _ _ next c.loop-at.invariant.1 c.in_ok-put.ensures)
-
-pub returns : goal.returns
-returns c = let e = take_all c.loop-at.at c.args.part.now c.loop-at-test.false in rw e at c.loop-at.invariant.1
+pub returns-clause-added : goal.returns-clause-added
+returns-clause-added c bytes h =
+    let front : List ℕ = c.split_at.result.0.now in
+    let back : List ℕ = c.split_at.result.1.now in
+    let whole = whole_of back in
+    let rest : List ℕ = c.push_numbers-rest.result.now in
+    let begun = c.put.new.self.rest.short in
+    let pushed = c.push_numbers-rest.ensures in
+    -- the front completes the rest
+    let first = c.put.ensures.added bytes (record { items = c.in_ok-reserve.ensures.items ∙ h.items; rest = h.rest }) in
+    -- the whole numbers stand behind no rest
+    let mid : Numbers = record { items = c.push_numbers-rest.new.numbers; rest = c.put.new.self.rest } in
+    let behind = whole_behind (vec_items c.put.new.self.rest.bytes) back (omega arith) (λ some. omega arith) in
+    let items = pushed.numbers ∙ ap (λ ns. vec_items c.put.new.self.items ++ ns) (sym behind.0) in
+    let second : Added whole c.put.new.self mid = added _ _ _ items (sym behind.1) in
+    let third = c.put-2.ensures.added ((bytes ++ front) ++ whole) (second (bytes ++ front) first) in
+    -- and with the rest they are the part
+    let both : whole ++ rest ≡ back = ap (λ xs. whole ++ xs) pushed.rest ∙ whole_rest back in
+    let part : front ++ back ≡ c.args.part.now = sym c.split_at.ensures.by_index.0 in
+    let behind_front = append_assoc (bytes ++ front) whole rest ∙ ap (λ xs. (bytes ++ front) ++ xs) both in
+    let e = behind_front ∙ append_assoc bytes front back ∙ ap (λ xs. bytes ++ xs) part in
+    rw e at third

@@ -1,19 +1,33 @@
-use Rattle.std.proofs.Common.{length, sym, refl, ap, ◌∙◌}
-use Rattle.input.proofs.Parts.{added_byte, added_number}
+use Rattle.std.proofs.Common.{ℕ, List, ◌++◌, length, vec_items, ap, sym, ◌∙◌, arith, length-append, append-nil}
+use Rattle.input.proofs.Parts.{added, length_numbers, length_rest}
 use Rattle.input.proofs.numbers.Numbers.put.Goals as goal
 
-pub returns-in_ok-push-2 : goal.returns-in_ok-push-2
-returns-in_ok-push-2 c =
-    added_number _ _ _ c.args.self.now _
-    (sym (c.as_slice-rest.ensures.value ∙ c.in_ok-push.ensures.items))
-    c.if-rest-eq-WIDTH.true
-    c.number-number.ensures
-    c.in_ok-push-2.ensures.items
-    c.clear.ensures.items
+pub push_reserved-requires : goal.push_reserved-requires
+push_reserved-requires c =
+    let rest : List ℕ = vec_items c.args.self.now.rest.bytes in
+    let long = length-append rest c.args.bytes.now in
+    omega (arith, length_numbers (rest ++ c.args.bytes.now), ap length c.in-Some.ensures.number)
 
-pub returns-else-rest-eq-WIDTH : goal.returns-else-rest-eq-WIDTH
-returns-else-rest-eq-WIDTH c =
-    added_byte _ c.args.self.now _
-    c.in_ok-push.ensures.items
-    (λ e. c.if-rest-eq-WIDTH.false (ap length c.as_slice-rest.ensures.value ∙ e))
-    refl
+pub returns-in-Some-clause-added : goal.returns-in-Some-clause-added
+returns-in-Some-clause-added c =
+    let behind = ap (λ ns. vec_items c.args.self.now.items ++ ns) c.in-Some.ensures.number in
+    added _ _ _ (c.push_reserved.ensures.items ∙ behind) c.in-Some.ensures.rest
+
+pub returns-in_default-clause-added : goal.returns-in_default-clause-added
+returns-in_default-clause-added c =
+    let behind = ap (λ ns. vec_items c.args.self.now.items ++ ns) c.in_default.ensures.number in
+    added _ _ _ (sym (append-nil _) ∙ behind) c.in_default.ensures.rest
+
+pub returns-in-Some-clause-len : goal.returns-in-Some-clause-len
+returns-in-Some-clause-len c =
+    let rest : List ℕ = vec_items c.args.self.now.rest.bytes in
+    let long = length-append rest c.args.bytes.now in
+    let told = c.in-Some.ensures in
+    omega (arith, length_rest (rest ++ c.args.bytes.now), ap length told.number, ap length told.rest)
+
+pub returns-in_default-clause-len : goal.returns-in_default-clause-len
+returns-in_default-clause-len c =
+    let rest : List ℕ = vec_items c.args.self.now.rest.bytes in
+    let long = length-append rest c.args.bytes.now in
+    let told = c.in_default.ensures in
+    omega (arith, length_rest (rest ++ c.args.bytes.now), ap length told.number, ap length told.rest)

@@ -1,5 +1,6 @@
-use Rattle.input.proofs.Parts.{holds_none}
+use Rattle.input.specs.Numbers.{numbers_of, rest_of}
 use Rattle.input.proofs.numbers.Numbers.with_room.Goals as goal
 
-pub returns : goal.returns
-returns c = holds_none _ c.in_ok-items.ensures.items c.new-rest.ensures.items
+pub returns-clause-none : goal.returns-clause-none
+unfolding numbers_of rest_of
+returns-clause-none c = record { items = c.in_ok-items.ensures.items; rest = c.in_ok-rest.ensures }

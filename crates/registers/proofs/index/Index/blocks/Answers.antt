@@ -1,22 +1,19 @@
-use Rattle.std.proofs.Common.{length, sym, ap, ◌∙◌, arith}
+use Rattle.std.proofs.Common.{length, sym, ap, ◌∙◌, ⊎_elim, arith}
+use Rattle.std.proofs.lemmas.Bool.{cases_lt}
+use Rattle.registers.specs.declared.layout.Section.{Section}
 use Rattle.registers.proofs.Finding.{index_count, index_turn}
+use Rattle.registers.proofs.Placing.{there_none}
 use Rattle.registers.proofs.Views.{length_register, register_beyond, register_there}
 use Rattle.registers.proofs.index.Index.blocks.Goals as goal
 
-pub offset_bounds-self-t : goal.offset_bounds-self-t
-offset_bounds-self-t c =
-    let u = index_turn _ _ _ _ c.args.self.now.sound c.args.t c.if-t-self.true in
-    omega arith
-
-pub bounds-self-t : goal.bounds-self-t
-bounds-self-t c =
-    let u = index_turn _ _ _ _ c.args.self.now.sound c.args.t c.if-t-self.true in
-    omega arith
-
-pub returns-then-t-self : goal.returns-then-t-self
-returns-then-t-self c =
-    let u = index_turn _ _ _ _ c.args.self.now.sound c.args.t c.if-t-self.true in
-    u.blocks ∙ sym (ap length (register_there c.args.self.now.base.now c.args.t u.less) ∙ length_register c.args.self.now.base.now _)
-
-pub returns-else-t-self : goal.returns-else-t-self
-returns-else-t-self c = sym (ap length (register_beyond c.args.self.now.base.now c.args.t (omega (arith, index_count _ _ _ _ c.args.self.now.sound, c.if-t-self.false))))
+pub returns : goal.returns
+returns c =
+    let count = index_count _ _ _ _ c.args.self.now.sound in
+    ⊎_elim
+    (λ below.
+    let u = index_turn _ _ _ _ c.args.self.now.sound c.args.t _ below c.section.ensures in
+    u.blocks ∙ sym (ap length (register_there c.args.self.now.registers.base.now c.args.t u.less) ∙ length_register c.args.self.now.registers.base.now _))
+    (λ beyond.
+    ap (λ (s : Section). s.blocks) (c.section.ensures ∙ there_none c.args.self.now.registers c.args.t beyond)
+    ∙ sym (ap length (register_beyond c.args.self.now.registers.base.now c.args.t (omega arith))))
+    (cases_lt c.args.t c.args.self.now.registers.directory.count)

@@ -1,5 +1,0 @@
-use Rattle.ask.proofs.Summing.{Reporting}
-use Rattle.ask.proofs.summary.sum_up_all.Given as goal
-
-abbrev pub invariant-loop-t : goal.invariant-loop-t
-invariant-loop-t l = Reporting l.index.base.now l.t l.registers

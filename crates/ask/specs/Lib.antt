@@ -1,2 +1,0 @@
--- What the program tells of registers.
-pub mod Summary

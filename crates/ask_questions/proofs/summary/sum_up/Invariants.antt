@@ -1,7 +1,0 @@
-use Rattle.registers.specs.Base.{register}
-use Rattle.registers.specs.Layout.{base_of}
-use Rattle.ask_questions.proofs.Summing.{Summed}
-use Rattle.ask_questions.proofs.summary.sum_up.Given as goal
-
-abbrev pub invariant-loop-i : goal.invariant-loop-i
-invariant-loop-i l = Summed (register (base_of l.index.base.now) l.t) l.i l.rows l.contested

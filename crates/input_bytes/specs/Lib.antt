@@ -1,2 +1,0 @@
--- How bytes become numbers.
-pub mod Numbers

@@ -1,0 +1,2 @@
+-- How programs end.
+pub mod Ending

@@ -1,0 +1,9 @@
+// What the programs do alike: they read the file that the argument names, or standard input, tell what they have to,
+// and say why where they cannot.
+#![tactic(auto)]
+
+mod failure;
+mod running;
+
+pub use failure::Failure;
+pub use running::{end, run};

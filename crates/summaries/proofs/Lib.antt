@@ -1,0 +1,3 @@
+-- Lemmas by topic.
+pub mod Summing
+pub mod Telling

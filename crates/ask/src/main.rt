@@ -5,12 +5,11 @@
 mod lines;
 
 use input::numbers::Numbers;
-use program::{end, run};
+use program::run;
 use std::process::ExitCode;
 
 fn main(rt: HostRuntime) -> ExitCode {
-    let told = run(&rt, "ask", |numbers: &Numbers| {
+    run(&rt, "ask", |numbers: &Numbers| {
         lines::tell(rt.alloc(), rt.stdout(), numbers.as_slice())
-    });
-    end(&rt, "ask", told)
+    })
 }

@@ -49,9 +49,9 @@ abbrev pub size_of : (signs : ℕ) → ℕ
 size_of signs = 1 + 4 + signs * (sign_len * 4)
 
 -- going from question to question: where bytes are left, a question begins with the first of them, and the next one
--- begins behind it
+-- begins behind it; after the end nothing is left either
 abbrev pub Steps : (before : List ℕ) → Option Part → (after : List ℕ) → Type 0
 Steps before part after =
     MatchOption part
-    (before ≡ [])
+    ((before ≡ []) × (after ≡ []))
     (λ p. (before ≡ bytes_of p) × (after ≡ drop (size_of p.signs) before))

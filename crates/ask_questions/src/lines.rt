@@ -24,7 +24,9 @@ fn tell_part<W: Write>(out: &mut W, widths: &[usize], part: Part) -> io::Result<
     }
 }
 
-// Writes a line for each register and for each question behind them, or the one line of the registers' refusal.
+// Writes a line for each register and for each question behind them, or the one line of the registers' refusal. `ask`
+// tells the same without the questions. A function for both would be lent the rest as a closure over the writer, which
+// `ask` has no use for.
 pub(crate) fn tell<W: Write + Drop>(
     alloc: Global,
     out: W,

@@ -7,12 +7,11 @@ mod parts;
 mod words;
 
 use input_bytes::bytes::Input;
-use program::{end, run};
+use program::run;
 use std::process::ExitCode;
 
 fn main(rt: HostRuntime) -> ExitCode {
-    let told = run(&rt, "ask_questions", |input: &Input| {
+    run(&rt, "ask_questions", |input: &Input| {
         lines::tell(rt.alloc(), rt.stdout(), input.numbers(), input.bytes())
-    });
-    end(&rt, "ask_questions", told)
+    })
 }

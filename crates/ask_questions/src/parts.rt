@@ -1,8 +1,9 @@
 // Questions in the input: each is one byte for how many signs it has, the signs, and a number for the column to be
 // summed.
-ghost use Rattle.std.specs.Prelude.{◌≡◌, ◌*◌, ◌<◌, ◌≤◌, length, drop, None, Some, MatchOption, MatchResult};
+ghost use Rattle.std.specs.Prelude.{◌≡◌, ◌*◌, ◌<◌, ◌≤◌, length, drop};
 ghost use Rattle.std.specs.Iterator.{at_most};
 ghost use Rattle.questions.specs.Signs.{most_signs, sign_len};
+ghost use Rattle.questions.specs.Views.{Answers};
 ghost use Rattle.ask_questions.specs.Parts.{Steps, bytes_of, cut_refusal, part_refusal, part_signs, signs_of};
 
 use input::numbers::WIDTH;
@@ -12,7 +13,7 @@ use questions::reading;
 use questions::refusals::Refusal;
 use questions::signs::Signs;
 
-// Room for the numbers of all signs.
+// Room for the numbers of all signs. It is fixed, so that reading a part cannot fail for want of memory.
 pub(crate) const ROOM: usize = MAX_SIGNS * SIGN_LEN;
 
 // A question in the input: the byte that says how many signs it has, and all bytes behind that.
@@ -65,7 +66,7 @@ fn read_signs<'a>(
 ) -> Result<Signs<'a>, Refusal>
     requires few { signs ≤ most_signs }
     requires room { length numbers.old ≡ signs * sign_len }
-    ensures { MatchResult result (λ s. (cut_refusal widths.now signs bytes.now ≡ None) × (s.widths.now ≡ widths.now) × (s.numbers.now ≡ signs_of signs bytes.now)) (λ e. cut_refusal widths.now signs bytes.now ≡ Some e) }
+    ensures { Answers widths.now (signs_of signs bytes.now) (cut_refusal widths.now signs bytes.now) result }
 {
     let given = decode(bytes, numbers);
     let read = reading::read(widths, &numbers[..given]);
@@ -88,7 +89,7 @@ impl Part<'_> {
         widths: &'a [usize],
         room: &'a mut [u64; ROOM],
     ) -> Result<Signs<'a>, Refusal>
-        ensures { MatchResult result (λ s. (part_refusal widths.now (bytes_of self.now) ≡ None) × (s.widths.now ≡ widths.now) × (s.numbers.now ≡ part_signs (bytes_of self.now))) (λ e. part_refusal widths.now (bytes_of self.now) ≡ Some e) }
+        ensures { Answers widths.now (part_signs (bytes_of self.now)) (part_refusal widths.now (bytes_of self.now)) result }
     {
         let signs = usize::from(self.signs);
         if signs > MAX_SIGNS {

@@ -19,8 +19,8 @@ pub(crate) struct Words<'a> {
     pub(crate) question: Question<'a>,
 }
 
-// Its register, its tests, and its further questions in brackets. A question tells of tests and further questions by
-// number, so the loops count.
+// Its register, its tests, and its further questions in brackets. The loops count, since an iterator of tests or of
+// further questions would be a type of its own that counts in their place: no function may answer an `impl Iterator`.
 impl fmt::Display for Words<'_> {
     ghost output = { λ words. Some (question_words (asked_at words.question)) };
 

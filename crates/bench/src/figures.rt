@@ -6,10 +6,7 @@ use crate::searches::Times;
 use registers::check;
 use registers::layout::survey;
 use std::io;
-use timing::Timed;
-
-// How many runs the least time is taken from.
-const RUNS: usize = 15;
+use timing::{RUNS, Tenths, Timed};
 
 // The registers that are timed.
 const SHAPES: [Shape; 4] = [
@@ -73,7 +70,13 @@ fn time_index(rt: &HostRuntime, base: &[u64], shape: Shape) -> anyhow::Result<Ti
     Ok(times)
 }
 
-// Prints the times of one shape.
+// Prints one time, and what takes it.
+fn line(rt: &HostRuntime, time: Tenths, what: &str) -> anyhow::Result<()> {
+    println!(rt; "{time} ns {what}")?;
+    Ok(())
+}
+
+// Prints the times of one shape: the check, the survey and the index, each as soon as it is timed.
 fn tell_shape(rt: &HostRuntime, shape: Shape) -> anyhow::Result<()> {
     let base = shape.make(rt.alloc())?;
     let copies = shape.copies.max(1) as usize;
@@ -82,30 +85,20 @@ fn tell_shape(rt: &HostRuntime, shape: Shape) -> anyhow::Result<()> {
     let name = shape.name;
     println!(rt; "{name}, {len} numbers")?;
     let checked = time_copies(rt, base, len, |copy| check(copy).ok().map(|()| 1))?;
+    line(rt, checked.per(copies), "to check them")?;
     let surveyed = time_copies(rt, base, len, |copy| {
         let registers = survey(copy).ok()?;
         Some(registers.directory.blocks as u64)
     })?;
+    line(rt, surveyed.per(copies), "to survey them")?;
     let times = time_index(rt, &base[..len], shape)?;
-    let questions = QUESTIONS as usize;
-    for (time, what) in [
-        (checked.per(copies), "to check them"),
-        (surveyed.per(copies), "to survey them"),
-        (times.fill.per(1), "to make room and enter all blocks"),
-        (
-            times.present.per(questions),
-            "to look up a key that is there",
-        ),
-        (
-            times.read.per(questions),
-            "to look it up and add up its first row",
-        ),
-        (
-            times.absent.per(questions),
-            "to look up a key that is not there",
-        ),
+    line(rt, times.fill.per(1), "to make room and enter all blocks")?;
+    for (finds, what) in [
+        (times.present, "to look up a key that is there"),
+        (times.read, "to look it up and add up its first row"),
+        (times.absent, "to look up a key that is not there"),
     ] {
-        println!(rt; "{time} ns {what}")?;
+        line(rt, finds.per(QUESTIONS as usize), what)?;
     }
     let sum = checked
         .sum

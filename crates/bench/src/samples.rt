@@ -83,30 +83,12 @@ impl Shape {
         self.blocks.saturating_mul(REGISTERS)
     }
 
-    // The look-up of the key that comes from a number, in the register of the first copy that the number belongs to.
-    fn question(self, number: u32, keys: Keys) -> Question {
+    // The look-up of the key that comes from a number counted on from `first`, in the register of the first copy that
+    // the number belongs to.
+    fn question(self, number: u32, first: u32) -> Question {
         Question {
             register: (number / self.blocks.max(1)) as usize,
-            key: u64::from(scattered(number.wrapping_add(keys.first()))),
-        }
-    }
-}
-
-// Which keys are looked up.
-#[derive(Clone, Copy)]
-enum Keys {
-    // Those that the registers have.
-    Present,
-    // Others.
-    Absent,
-}
-
-impl Keys {
-    // The number from which the first of them comes.
-    fn first(self) -> u32 {
-        match self {
-            Keys::Present => 0,
-            Keys::Absent => OTHERS,
+            key: u64::from(scattered(first.wrapping_add(number))),
         }
     }
 }
@@ -126,7 +108,8 @@ pub struct Questions {
 }
 
 impl Questions {
-    // Look-ups of the keys that come from so many numbers.
+    // Look-ups of the keys that come from so many numbers. Those from 0 on give keys that the registers have, and those
+    // from `OTHERS` on give others.
     fn of_numbers<F: Fn(u32) -> u32>(
         heap: Global,
         shape: Shape,
@@ -135,14 +118,14 @@ impl Questions {
     ) -> Result<Questions, AllocError>
         requires { F.IsAlwaysCallable number }
     {
-        let of = |keys: Keys| {
+        let of = |first: u32| {
             (0..count)
-                .map(|i| shape.question(number(i), keys))
+                .map(|i| shape.question(number(i), first))
                 .collect(heap)
         };
         Ok(Questions {
-            present: of(Keys::Present)?,
-            absent: of(Keys::Absent)?,
+            present: of(0)?,
+            absent: of(OTHERS)?,
         })
     }
 

@@ -7,6 +7,7 @@ use registers::filling::{MAX_PLACES, MAX_SLOTS};
 use registers::index::Index;
 use registers::layout::survey;
 use registers::registers::Registers;
+use registers::room::FreeRoom;
 use std::io;
 use std::time::Instant;
 use timing::{Found, Timed};
@@ -75,7 +76,8 @@ impl Times {
             .run(rt, || find_all(index, &questions.present, first_row))
     }
 
-    // Adds one run in room of a given size. What bounds the sizes is said of constants, which no type can carry.
+    // Adds one run in room of a given size. The room is made here, since that is timed, and so its bound is asked for:
+    // a closure that makes it could not be lent, since no bound `FnOnce` may name a size.
     fn add_in_room<const SLOTS: usize, const PLACES: usize>(
         &mut self,
         rt: &HostRuntime,
@@ -86,15 +88,17 @@ impl Times {
         requires sizes { (SLOTS ≤ 65544) × (PLACES ≤ 32768) }
     {
         let start = Instant::now(rt)?;
-        let mut slots = [None; SLOTS];
-        let mut places = [0; PLACES];
+        let FreeRoom {
+            mut slots,
+            mut places,
+        } = FreeRoom::<SLOTS, PLACES>::new();
         let index = registers.indexed(&mut slots, &mut places)?;
         self.fill.add(start.elapsed(rt)?, Found::default());
         self.add_finds(rt, &index, questions)?;
         Ok(())
     }
 
-    // Adds one run in room of a size that suits the registers, as the check of them has it.
+    // Adds one run in room of a size that suits the registers: that of a small, a middle or a full room.
     pub(crate) fn add_run(
         &mut self,
         rt: &HostRuntime,

@@ -3,9 +3,8 @@
 
 mod readings;
 
-use anyhow::anyhow;
-use readings::{COPIES, FORMS, RUNS};
-use std::env;
+use readings::{COPIES, FORMS};
+use timing::{RUNS, answers_or_figures};
 
 // Prints how many questions of each form are read as they should.
 fn tell_answers(rt: &HostRuntime) -> anyhow::Result<()> {
@@ -36,20 +35,11 @@ fn tell_figures(rt: &HostRuntime) -> anyhow::Result<()> {
     Ok(())
 }
 
-// Prints the times where the argument asks for them. In `bench` it stands with other words and calls: a function
-// for both would take all of them.
-fn run(rt: &HostRuntime) -> anyhow::Result<()> {
-    let mut words = env::args(rt)?;
-    let _program = words.next();
-    let Some(word) = words.next() else {
-        return tell_answers(rt);
-    };
-    if word.as_str() == "figures" && words.next().is_none() {
-        return tell_figures(rt);
-    }
-    Err(anyhow!("usage: bench_questions [figures]"))
-}
-
 fn main(rt: HostRuntime) -> anyhow::Result<()> {
-    run(&rt)
+    answers_or_figures(
+        &rt,
+        "bench_questions",
+        || tell_answers(&rt),
+        || tell_figures(&rt),
+    )
 }

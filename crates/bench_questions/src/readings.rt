@@ -2,17 +2,15 @@
 ghost use Rattle.std.specs.Prelude.{◌<◌};
 ghost use Rattle.std.specs.Slice.Iter.{chunks_size};
 
+use questions::outline::Outline;
 use questions::reading::read;
 use std::alloc::{AllocError, Global};
 use std::io;
 use std::slice::Chunks;
-use timing::Timed;
+use timing::{RUNS, Timed};
 
 // How often a question is made and read in a run.
 pub const COPIES: u32 = 256;
-
-// How often each time is taken.
-pub const RUNS: usize = 15;
 
 // The columns of the registers to which the questions go.
 const WIDTHS: [usize; 8] = [8; 8];
@@ -22,7 +20,7 @@ const WIDTHS: [usize; 8] = [8; 8];
 pub struct Form {
     pub name: &'static str,
     further: &'static [usize],
-    ends: [usize; 8],
+    outline: Outline,
 }
 
 // The questions that are read.
@@ -30,17 +28,26 @@ pub const FORMS: [Form; 3] = [
     Form {
         name: "a chain of 8 signs",
         further: &[1, 1, 1, 1, 1, 1, 1, 0],
-        ends: [8; 8],
+        outline: Outline {
+            count: 8,
+            ends: [8; 8],
+        },
     },
     Form {
         name: "a tree of 8 signs",
         further: &[3, 2, 0, 0, 0, 1, 1, 0],
-        ends: [8, 4, 3, 4, 5, 8, 8, 8],
+        outline: Outline {
+            count: 8,
+            ends: [8, 4, 3, 4, 5, 8, 8, 8],
+        },
     },
     Form {
         name: "one sign",
         further: &[0],
-        ends: [1, 0, 0, 0, 0, 0, 0, 0],
+        outline: Outline {
+            count: 1,
+            ends: [1, 0, 0, 0, 0, 0, 0, 0],
+        },
     },
 ];
 
@@ -63,8 +70,7 @@ impl Form {
 
     // Whether signs are read as a question of this form.
     fn is_read(self, signs: &[u64]) -> bool {
-        read(&WIDTHS, signs).is_ok_and(|read| read.outline.count == self.further.len()
-            && read.outline.ends == self.ends)
+        read(&WIDTHS, signs).is_ok_and(|read| read.outline == self.outline)
     }
 
     // How many copies are read as questions of this form.

@@ -1,5 +1,6 @@
 // Registers to try the checks, the look-ups and the index on.
 use std::alloc::{AllocError, Global};
+use std::iter::repeat_n;
 
 // Keys whose ways all begin at the last slot of a table for twelve keys.
 pub const COLLIDING: [u64; 12] = [21, 55, 76, 110, 131, 144, 165, 199, 220, 254, 288, 309];
@@ -11,14 +12,11 @@ pub(crate) fn add_plain(
     columns: u64,
     rows: u64,
 ) -> Result<(), AllocError> {
+    let cells = rows.wrapping_mul(columns) as usize;
     base.extend_from_slice(&[blocks, columns])?;
     for key in 0..blocks {
         base.extend_from_slice(&[key, rows])?;
-        for _row in 0..rows {
-            for _column in 0..columns {
-                base.push(key)?;
-            }
-        }
+        base.extend(repeat_n(key, cells))?;
     }
     Ok(())
 }
@@ -34,9 +32,5 @@ pub(crate) fn under_keys(heap: Global, keys: &[u64]) -> Result<Vec<u64>, AllocEr
 
 // So many keys that differ in their upper bits only.
 pub(crate) fn high_keys(heap: Global, count: u32) -> Result<Vec<u64>, AllocError> {
-    let mut keys = Vec::new(heap);
-    for i in 0..count {
-        keys.push(i as u64 * 1048576)?;
-    }
-    Ok(keys)
+    (0..count).map(|i| u64::from(i) * 1048576).collect(heap)
 }

@@ -38,6 +38,7 @@ fn read_all<R: Read, P: FromParts>(source: &mut R, mut value: P) -> io::Result<P
             Ok(0) => return Ok(value),
             Ok(len) => value.add_part(&part[..len])?,
             Err(e) if e.kind() == io::ErrorKind::Interrupted => {}
+            // Not `?`, which would hand on an interrupted read.
             Err(e) => return Err(e),
         }
     }

@@ -51,6 +51,7 @@ impl Input {
     }
 }
 
+// As that of `Numbers`, it hands on to its own `add`.
 impl FromParts for Input {
     ghost holds = { λ bytes input. input.bytes.items ≡ bytes };
 
@@ -69,8 +70,8 @@ mod tests {
     use std::process::Abort;
     use std::test::Fail;
 
-    // Two parts are held as all their bytes, and as the numbers listed. The tests of `input` begin in the same lines,
-    // but feed another type and compare numbers alone.
+    // Two parts are held as all their bytes, and as the numbers listed. `expect` of `input` begins in the same lines:
+    // this one feeds another type and compares the bytes besides, so one for both would take that as a closure.
     fn expect(
         rt: &(impl Abort + AllocGlobal),
         first: &[u8],

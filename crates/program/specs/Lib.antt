@@ -1,2 +1,3 @@
--- How programs end.
+-- How programs end, and in which words.
 pub mod Ending
+pub mod Words

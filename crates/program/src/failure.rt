@@ -1,8 +1,10 @@
 // Why a program ends without an answer.
+ghost use Rattle.program.specs.Words.{failure_words};
+
 use std::{fmt, io};
 
 #[derive(Drop)]
-pub enum Failure {
+pub(crate) enum Failure {
     // More than one argument.
     Usage { program: &'static str },
     // The arguments are no text, or there is no memory for them.
@@ -15,7 +17,10 @@ pub enum Failure {
     Output { reason: io::Error },
 }
 
+// As the programs tell it. What an `io::Error` prints is not stated, so nor are the words that end with one.
 impl fmt::Display for Failure {
+    ghost output = { failure_words };
+
     fn fmt<W: fmt::Write>(&self, f: &mut fmt::Formatter<W>) -> fmt::Result {
         match self {
             Failure::Usage { program } => {

@@ -5,5 +5,4 @@
 mod failure;
 mod running;
 
-pub use failure::Failure;
-pub use running::{end, run};
+pub use running::run;

@@ -1,5 +1,6 @@
 // Questions that are read, and asked for what stands at each sign.
 use crate::signs::{add_sign, drained, wide};
+use questions::outline::Outline;
 use questions::reading::read;
 use questions::signs::Question;
 use questions::{check as checked, widths};
@@ -21,7 +22,7 @@ fn list_tests(question: &Question, list: &mut Vec<u64>) -> Result<(), AllocError
 // Adds a question: the sign at which it begins, its register, its tests, how many further questions it has, and each of
 // them behind its column. A chain would name the number of each twice as the loop does, and hide the errors.
 fn list_question(question: &Question, list: &mut Vec<u64>) -> Result<(), AllocError> {
-    list.extend_from_slice(&[question.sign() as u64, question.register() as u64])?;
+    list.extend_from_slice(&[question.sign as u64, question.register() as u64])?;
     list_tests(question, list)?;
     list.push(question.further() as u64)?;
     for i in 0..question.further() {
@@ -65,13 +66,23 @@ fn example(rt: HostRuntime) -> Result<(), Fail> {
     let drained = drained(heap, 0)?;
     assert_eq!(rt; checked(base, drained.as_slice()), Ok(()));
     let outline = read(&[2, 2, 1], drained.as_slice())?.outline;
-    assert_eq!(rt; outline.count, 3);
-    assert_eq!(rt; outline.ends, [3, 3, 3, 0, 0, 0, 0, 0]);
+    assert_eq!(rt;
+        outline,
+        Outline {
+            count: 3,
+            ends: [3, 3, 3, 0, 0, 0, 0, 0]
+        }
+    );
     let wide = wide(heap, 0)?;
     assert_eq!(rt; checked(base, wide.as_slice()), Ok(()));
     let outline = read(&[2, 2, 1], wide.as_slice())?.outline;
-    assert_eq!(rt; outline.count, 1);
-    assert_eq!(rt; outline.ends, [1, 0, 0, 0, 0, 0, 0, 0]);
+    assert_eq!(rt;
+        outline,
+        Outline {
+            count: 1,
+            ends: [1, 0, 0, 0, 0, 0, 0, 0]
+        }
+    );
     Ok(())
 }
 

@@ -73,16 +73,15 @@ fn numbers(rt: HostRuntime) {
 #[test]
 fn words(rt: HostRuntime) -> Result<(), Fail> {
     let heap = rt.alloc();
-    let expected = [
-        "column 2 is 7",
-        "column 2 is not 7",
-        "column 2 at least 7",
-        "column 2 at most 7",
-    ];
-    for (kind, expected) in KINDS.iter().zip(expected) {
+    for (kind, expected) in [
+        (Kind::Is, "column 2 is 7"),
+        (Kind::IsNot, "column 2 is not 7"),
+        (Kind::AtLeast, "column 2 at least 7"),
+        (Kind::AtMost, "column 2 at most 7"),
+    ] {
         let test = Test {
             column: 2,
-            kind: *kind,
+            kind,
             number: 7,
         };
         assert_eq!(rt; format!(in heap; "{test}")?.as_str(), expected);

@@ -1,6 +1,6 @@
 // Which signs are refused, and at which sign or register.
 use crate::bases::WIDENING;
-use crate::signs::{branching, drained, full};
+use crate::signs::{branching, chained, drained, full};
 use questions::check as checked;
 use questions::layout::SIGN_LEN;
 use questions::refusals::Refusal;
@@ -49,13 +49,13 @@ fn largest(place: usize, register: u64) -> Option<u64> {
 
 // Each number of a sign may be as large as its limit, but no larger.
 fn check_limits(
-    rt: &impl Abort,
-    heap: Global,
+    rt: &(impl Abort + AllocGlobal),
     first: usize,
     further: &[usize],
     sign: usize,
     register: u64,
 ) -> Result<(), Fail> {
+    let heap = rt.alloc();
     let signs = full(heap, first, further)?;
     let signs = signs.as_slice();
     for place in 0..SIGN_LEN {
@@ -73,12 +73,12 @@ fn check_limits(
 }
 
 // What is said of signs over eight registers of 4 columns: the register and the number of further questions of each.
-fn said(heap: Global, registers: &[u64], further: &[usize]) -> Result<Result<(), Refusal>, Fail> {
+fn said(heap: Global, pairs: &[(u64, usize)]) -> Result<Result<(), Refusal>, Fail> {
     let mut base = Vec::from_slice(heap, &[8])?;
     for _register in 0..8 {
         base.extend_from_slice(&[0, 4])?;
     }
-    let signs = branching(heap, registers, further)?;
+    let signs = branching(heap, pairs)?;
     Ok(checked(base.as_slice(), signs.as_slice()))
 }
 
@@ -105,11 +105,10 @@ fn lengths(rt: HostRuntime) -> Result<(), Fail> {
 // The first sign and an inner one, that go to the widest register and to a narrow one.
 #[test]
 fn limits(rt: HostRuntime) -> Result<(), Fail> {
-    let heap = rt.alloc();
-    check_limits(&rt, heap, 7, &[4, 0, 0, 0, 0], 0, 7)?;
-    check_limits(&rt, heap, 0, &[4, 0, 0, 0, 0], 0, 0)?;
-    check_limits(&rt, heap, 6, &[1, 4, 0, 0, 0, 0], 1, 7)?;
-    check_limits(&rt, heap, 0, &[1, 4, 0, 0, 0, 0], 1, 1)
+    check_limits(&rt, 7, &[4, 0, 0, 0, 0], 0, 7)?;
+    check_limits(&rt, 0, &[4, 0, 0, 0, 0], 0, 0)?;
+    check_limits(&rt, 6, &[1, 4, 0, 0, 0, 0], 1, 7)?;
+    check_limits(&rt, 0, &[1, 4, 0, 0, 0, 0], 1, 1)
 }
 
 // A register or a column that the three registers of the example lack, at each sign.
@@ -137,15 +136,21 @@ fn example(rt: HostRuntime) -> Result<(), Fail> {
 #[test]
 fn first_unread(rt: HostRuntime) -> Result<(), Fail> {
     let heap = rt.alloc();
-    assert_eq!(rt; said(heap, &[8, 8], &[1, 0])?, unread(0));
-    assert_eq!(rt; said(heap, &[0, 8, 8], &[1, 1, 0])?, unread(1));
-    assert_eq!(rt; said(heap, &[0, 1, 8, 3, 4], &[2, 0, 0, 0, 0])?, unread(2));
-    assert_eq!(rt; said(heap, &[0, 1, 2, 8], &[2, 0, 0, 0])?, unread(3));
-    assert_eq!(rt; said(heap, &[0, 1, 2], &[2, 1, 0])?, unread(3));
+    assert_eq!(rt; said(heap, &[(8, 1), (8, 0)])?, unread(0));
+    assert_eq!(rt; said(heap, &[(0, 1), (8, 1), (8, 0)])?, unread(1));
+    assert_eq!(rt;
+        said(heap, &[(0, 2), (1, 0), (8, 0), (3, 0), (4, 0)])?,
+        unread(2)
+    );
+    assert_eq!(rt; said(heap, &[(0, 2), (1, 0), (2, 0), (8, 0)])?, unread(3));
+    assert_eq!(rt; said(heap, &[(0, 2), (1, 1), (2, 0)])?, unread(3));
     let eight = [0, 1, 2, 3, 4, 5, 6, 7];
-    assert_eq!(rt; said(heap, &eight, &[1, 1, 1, 1, 1, 1, 1, 0])?, Ok(()));
-    assert_eq!(rt; said(heap, &eight, &[1; 8])?, unread(8));
-    assert_eq!(rt; said(heap, &[8; 9], &[1; 9])?, unread(8));
+    assert_eq!(rt; said(heap, &chained(eight))?, Ok(()));
+    assert_eq!(rt;
+        said(heap, &eight.map(|register| (register, 1)))?,
+        unread(8)
+    );
+    assert_eq!(rt; said(heap, &[(8, 1); 9])?, unread(8));
     Ok(())
 }
 
@@ -154,14 +159,16 @@ fn first_unread(rt: HostRuntime) -> Result<(), Fail> {
 #[test]
 fn again(rt: HostRuntime) -> Result<(), Fail> {
     let heap = rt.alloc();
-    let chain = [1, 1, 1, 1, 1, 1, 1, 0];
-    assert_eq!(rt; said(heap, &[3, 3], &[1, 0])?, twice(3));
-    assert_eq!(rt; said(heap, &[0, 5, 5], &[2, 0, 0])?, twice(5));
-    assert_eq!(rt; said(heap, &[0, 1, 4, 2, 4], &[2, 1, 0, 1, 0])?, twice(4));
-    assert_eq!(rt; said(heap, &[7, 1, 2, 3, 4, 5, 6, 7], &chain)?, twice(7));
-    assert_eq!(rt; said(heap, &[0, 1, 2, 3, 4, 5, 6, 6], &chain)?, twice(6));
-    assert_eq!(rt; said(heap, &[0, 1, 2, 3, 3, 1, 2, 0], &chain)?, twice(3));
-    assert_eq!(rt; said(heap, &[0, 1, 2, 3, 2, 3, 0, 1], &chain)?, twice(2));
+    assert_eq!(rt; said(heap, &[(3, 1), (3, 0)])?, twice(3));
+    assert_eq!(rt; said(heap, &[(0, 2), (5, 0), (5, 0)])?, twice(5));
+    assert_eq!(rt;
+        said(heap, &[(0, 2), (1, 1), (4, 0), (2, 1), (4, 0)])?,
+        twice(4)
+    );
+    assert_eq!(rt; said(heap, &chained([7, 1, 2, 3, 4, 5, 6, 7]))?, twice(7));
+    assert_eq!(rt; said(heap, &chained([0, 1, 2, 3, 4, 5, 6, 6]))?, twice(6));
+    assert_eq!(rt; said(heap, &chained([0, 1, 2, 3, 3, 1, 2, 0]))?, twice(3));
+    assert_eq!(rt; said(heap, &chained([0, 1, 2, 3, 2, 3, 0, 1]))?, twice(2));
     Ok(())
 }
 
@@ -175,8 +182,8 @@ fn order(rt: HostRuntime) -> Result<(), Fail> {
     let blocks = Err(Refusal::from(RegistersRefusal::Blocks { register: 0 }));
     assert_eq!(rt; checked(&[1, 1, 1, 5, 0], &[]), blocks);
     assert_eq!(rt; checked(&[1, 1, 1, 5, 0], &[0; 171]), blocks);
-    assert_eq!(rt; said(heap, &[0, 0, 8], &[1, 1, 0])?, unread(2));
-    assert_eq!(rt; said(heap, &[0, 0], &[1, 1])?, unread(2));
-    assert_eq!(rt; said(heap, &[0, 0, 1], &[1, 0, 0])?, unread(2));
+    assert_eq!(rt; said(heap, &[(0, 1), (0, 1), (8, 0)])?, unread(2));
+    assert_eq!(rt; said(heap, &[(0, 1), (0, 1)])?, unread(2));
+    assert_eq!(rt; said(heap, &[(0, 1), (0, 0), (1, 0)])?, unread(2));
     Ok(())
 }

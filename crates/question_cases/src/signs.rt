@@ -1,5 +1,9 @@
 // Signs to try the reading of questions on.
+use questions::layout::SIGN_LEN;
 use std::alloc::{AllocError, Global};
+
+// Where the count of further questions stands in a sign.
+const FURTHER: usize = 14;
 
 // Adds a sign with these tests, and with further questions at these columns; what is not used holds the last number.
 pub(crate) fn add_sign(
@@ -9,19 +13,15 @@ pub(crate) fn add_sign(
     columns: &[u64],
     unused: u64,
 ) -> Result<(), AllocError> {
+    let start = signs.len();
     signs.extend_from_slice(&[register, tests.len() as u64])?;
     for test in tests {
         signs.extend_from_slice(test)?;
     }
-    for _test in tests.len()..4 {
-        signs.extend_from_slice(&[unused; 3])?;
-    }
+    signs.resize(start.wrapping_add(FURTHER), unused)?;
     signs.push(columns.len() as u64)?;
     signs.extend_from_slice(columns)?;
-    for _column in columns.len()..4 {
-        signs.push(unused)?;
-    }
-    Ok(())
+    signs.resize(start.wrapping_add(SIGN_LEN), unused)
 }
 
 // A sluice whose polder has a level of at most 3 and a board at work: 57 numbers.
@@ -40,17 +40,20 @@ pub(crate) fn wide(heap: Global, unused: u64) -> Result<Vec<u64>, AllocError> {
     Ok(signs)
 }
 
-// Signs without tests that go to these registers, each with so many further questions, at the columns 0, 1 and so on.
-pub(crate) fn branching(
-    heap: Global,
-    registers: &[u64],
-    further: &[usize],
-) -> Result<Vec<u64>, AllocError> {
+// Registers, and one further question of each, but none of the last.
+pub(crate) fn chained(registers: [u64; 8]) -> [(u64, usize); 8] {
+    let mut pairs = registers.map(|register| (register, 1));
+    pairs[7].1 = 0;
+    pairs
+}
+
+// Signs without tests: for each its register and how many further questions it has, at the columns 0, 1 and so on.
+pub(crate) fn branching(heap: Global, pairs: &[(u64, usize)]) -> Result<Vec<u64>, AllocError> {
     let mut signs = Vec::new(heap);
     let columns = [0, 1, 2, 3];
-    for (register, count) in registers.iter().zip(further) {
-        let count = (*count).min(4);
-        add_sign(&mut signs, *register, &[], &columns[..count], 0)?;
+    for pair in pairs {
+        let (register, further) = *pair;
+        add_sign(&mut signs, register, &[], &columns[..further.min(4)], 0)?;
     }
     Ok(signs)
 }

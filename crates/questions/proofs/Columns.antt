@@ -1,5 +1,5 @@
 -- The columns of registers that are not refused, as a survey tells them; and the refusal put together.
-use Rattle.std.proofs.Common.{◌≡◌, ℕ, ◌≤◌, false, List, map, length, get_or, take, is_some, Some, None, Option, sym, refl, ap, ◌∙◌, ap₂, arith}
+use Rattle.std.proofs.Common.{◌≡◌, ℕ, ◌≤◌, List, map, length, get_or, take, Some, None, Option, sym, refl, ap, ◌∙◌, ap₂, arith}
 use Rattle.std.specs.List.{range_with_len}
 use Rattle.std.proofs.lemmas.List.FromFn.{fill_by_all, get_or-map-range_with_len, length-map-range_with_len, take-map-range_with_len}
 use Rattle.registers.specs.declared.layout.Directory.{Directory}
@@ -11,7 +11,6 @@ use Rattle.registers.specs.Survey.{no_section}
 use Rattle.registers.proofs.Placing.{count_few, misfit_none, there, there_count}
 use Rattle.questions.specs.declared.refusals.Refusal.{Refusal}
 use Rattle.questions.specs.declared.refusals.Refusal.TheVariants.{Registers}
-use Rattle.questions.specs.declared.signs.Signs.{Signs}
 use Rattle.questions.specs.Reading.{widths_of}
 use Rattle.questions.specs.Refusals.{of_registers, refusal_of, signs_refusal}
 
@@ -36,24 +35,11 @@ pub refused_first : (base xs : List ℕ) (e : RegistersRefusal) → refusal base
 unfolding refusal_of
 refused_first base xs e h = ap (λ (o : Option RegistersRefusal). or_else (of_registers o) (signs_refusal (columns_of base) xs)) h
 
--- and then that of signs: what `read` answers tells it
-read_none : (widths xs : List ℕ) (s : Signs) → s.widths.now ≡ widths → s.numbers.now ≡ xs → signs_refusal widths xs ≡ None
-read_none widths xs s w n = none _ (ap₂ (λ (ws ns : List ℕ). is_some (signs_refusal ws ns)) (sym w) (sym n) ∙ s.accepted)
-  where
-    none : (o : Option Refusal) → is_some o ≡ false → o ≡ None
-    none None h = refl
-    none (Some e) h = cc
-
-pub accepted_by : (r : Surveyed) (base xs : List ℕ) (widths : List ℕ) (s : Signs) → r.base.now ≡ base → refusal base ≡ None → widths ≡ take r.directory.count (widths_of r.directory) → (s.widths.now ≡ widths) × (s.numbers.now ≡ xs) → refusal_of base xs ≡ None
+-- and then that of signs, or none
+pub refused_next : (r : Surveyed) (base xs widths : List ℕ) (o : Option Refusal) → r.base.now ≡ base → refusal base ≡ None → widths ≡ take r.directory.count (widths_of r.directory) → signs_refusal widths xs ≡ o → refusal_of base xs ≡ o
 unfolding refusal_of
-accepted_by r base xs widths s is none w told =
-    ap₂ (λ (o : Option RegistersRefusal) (ws : List ℕ). or_else (of_registers o) (signs_refusal ws xs)) none (ap columns_of (sym is) ∙ sym (widths_are r))
-    ∙ read_none _ xs s (told.0 ∙ w) told.1
-
-pub refused_by : (r : Surveyed) (base xs : List ℕ) (widths : List ℕ) (e : Refusal) → r.base.now ≡ base → refusal base ≡ None → widths ≡ take r.directory.count (widths_of r.directory) → signs_refusal widths xs ≡ Some e → refusal_of base xs ≡ Some e
-unfolding refusal_of
-refused_by r base xs widths e is none w told =
-    ap₂ (λ (o : Option RegistersRefusal) (ws : List ℕ). or_else (of_registers o) (signs_refusal ws xs)) none (ap columns_of (sym is) ∙ sym (widths_are r) ∙ sym w)
+refused_next r base xs widths o is none w told =
+    ap₂ (λ (p : Option RegistersRefusal) (ws : List ℕ). or_else (of_registers p) (signs_refusal ws xs)) none (ap columns_of (sym is) ∙ sym (widths_are r) ∙ sym w)
     ∙ told
 
 pub columns_by : (r : Surveyed) (base widths : List ℕ) → r.base.now ≡ base → widths ≡ take r.directory.count (widths_of r.directory) → widths ≡ columns_of base

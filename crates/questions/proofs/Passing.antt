@@ -90,10 +90,6 @@ module _ (widths xs : List ℕ) (short : Short xs) where
       (λ m k. outcome_bounds s m k)
       (λ m k g. passed_bounds left m e k g)
 
-  -- nothing is noted so far
-  pub noted_none : (s : ℕ) (ends : List ℕ) → Noted widths xs s s ends ends
-  noted_none s ends = record { noted = λ u l m. absurd (omega arith); kept = λ u h. refl }
-
   -- the ends of some questions, and of those behind them
   pub noted_append : (from mid to : ℕ) (before between after : List ℕ) → from ≤ mid → mid ≤ to → Noted widths xs from mid before between → Noted widths xs mid to between after → Noted widths xs from to before after
   noted_append from mid to before between after l m first second =

@@ -1,5 +1,5 @@
 -- What reading tells of all signs: the refusal, or where the questions end.
-use Rattle.std.proofs.Common.{◌≡◌, ℕ, ◌*◌, ◌<◌, cond, eqb, ltb, List, [], map, length, replicate, Some, Ok, Err, Option, sym, refl, ap, ◌∙◌, ap₂, inr, ⊎_elim, arith}
+use Rattle.std.proofs.Common.{◌≡◌, ℕ, ◌*◌, ◌<◌, cond, eqb, ltb, List, [], map, length, replicate, Some, None, Ok, Err, Option, sym, refl, ap, ◌∙◌, ap₂, inr, ⊎_elim, arith}
 use Rattle.std.specs.List.{range_with_len}
 use Rattle.std.proofs.lemmas.List.FromFn.{fill_by_all}
 use Rattle.std.proofs.lemmas.List.{get_or-replicate}
@@ -8,11 +8,19 @@ use Rattle.questions.specs.declared.refusals.Refusal.{Refusal}
 use Rattle.questions.specs.declared.refusals.Refusal.TheVariants.{Signs, Twice}
 use Rattle.questions.specs.Questions.{Question, first_again, goes_to}
 use Rattle.questions.specs.Reading.{Noted, count_of, end_of, ends_of, outcome, outline_of}
-use Rattle.questions.specs.Refusals.{refused_at, refused, signs_refusal}
+use Rattle.questions.specs.Refusals.{answered, refused_at, refused, signs_refusal}
 use Rattle.questions.specs.Signs.{asked, read, Reading, reads, register_at, Short, stuck, then}
 use Rattle.questions.proofs.Meaning.{read_complete}
 use Rattle.questions.proofs.Passing.{outcome_ok}
 use Rattle.questions.proofs.Trees.{read_stands, stands_goes}
+
+-- there is an answer exactly where there is no refusal
+pub answered_ok : {A : Type 0} (o : Option Refusal) (x y : A) → Ok x ≡ answered o y → (o ≡ None) × (x ≡ y)
+answered_ok None x y h = (refl, cc)
+answered_ok (Some e) x y h = cc
+
+pub answered_none : {A : Type 0} (o : Option Refusal) (x y : A) → o ≡ None → x ≡ y → Ok x ≡ answered o y
+answered_none o x y none same = ap Ok same ∙ ap (λ (p : Option Refusal). answered p y) (sym none)
 
 outcome_err : {A : Type 0} (r : Reading A) (x : Refusal) → Err x ≡ outcome r → (s : ℕ) × (r ≡ stuck s) × (Signs s ≡ x)
 outcome_err (read a m) x h = cc

@@ -1,5 +1,6 @@
--- What the signs of a question in memory stand for. Assumes nothing: these are definitions.
-use Rattle.std.specs.Prelude.{ℕ, slice_index}
+-- What the signs of a question in memory stand for, and what reading answers. Assumes nothing: these are definitions.
+use Rattle.std.specs.Prelude.{◌≡◌, ℕ, List, Some, None, Option, Result, MatchResult, slice_index}
+use Rattle.questions.specs.declared.refusals.Refusal.{Refusal}
 use Rattle.questions.specs.declared.signs.Question.{Question as Cursor}
 use Rattle.questions.specs.declared.signs.Signs.{Signs}
 use Rattle.questions.specs.Questions.{Question, register_of}
@@ -24,3 +25,11 @@ asked_at q = question_at q.signs.now q.sign
 
 abbrev pub width_at : Cursor → ℕ
 width_at q = width_of q.signs.now (asked_at q)
+
+-- what reading answers of signs over registers of so many columns each: the signs where they are not refused, or the
+-- refusal
+abbrev pub Answers : (widths xs : List ℕ) → Option Refusal → Result Signs Refusal → Type 0
+Answers widths xs refusal r =
+    MatchResult r
+    (λ s. (refusal ≡ None) × (s.widths.now ≡ widths) × (s.numbers.now ≡ xs))
+    (λ e. refusal ≡ Some e)

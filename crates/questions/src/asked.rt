@@ -1,35 +1,51 @@
 // What is asked at a sign: a register, tests, further questions.
-ghost use Rattle.std.specs.Prelude.{◌≡◌, ◌<◌, ◌≤◌, [], length, slice_index, slice_index_or};
+ghost use Rattle.std.specs.Prelude.{◌≡◌, ◌<◌, ◌≤◌, [], length, Ok, slice_index, slice_index_or};
 ghost use Rattle.questions.specs.Questions.{ask, columns_in, further_of, no_more, questions_in, register_of, tests_of};
+ghost use Rattle.questions.specs.Reading.{outline_of};
+ghost use Rattle.questions.specs.Refusals.{answered, signs_refusal};
 ghost use Rattle.questions.specs.Tests.{all_pass};
-ghost use Rattle.questions.specs.Views.{asked_at, width_at};
+ghost use Rattle.questions.specs.Views.{asked_at, signs_in, width_at};
 
 use crate::kinds::Test;
 use crate::layout::Sign;
+use crate::outline::Outline;
 use crate::signs::{Question, Signs};
 
 impl<'a> Signs<'a> {
+    // The signs that were read.
+    pub fn over(widths: &'a [usize], numbers: &'a [u64], outline: Outline) -> Signs<'a>
+        requires { Ok outline ≡ answered (signs_refusal widths.now numbers.now) (outline_of widths.now numbers.now) }
+        ensures widths { result.widths.now ≡ widths.now }
+        ensures numbers { result.numbers.now ≡ numbers.now }
+        ensures outline { result.outline ≡ outline }
+    {
+        Signs {
+            widths,
+            numbers,
+            outline,
+        }
+    }
+
+    // The question that begins at a sign.
+    pub fn at(&self, sign: usize) -> Question<'_>
+        requires { sign < signs_in self.now }
+        ensures signs { result.signs.now ≡ self.now }
+        ensures sign { result.sign ≡ sign }
+    {
+        Question { signs: self, sign }
+    }
+
     // The question that all signs stand for: it begins at the first of them.
     pub fn question(&self) -> Question<'_>
         ensures signs { result.signs.now ≡ self.now }
         ensures first { result.sign ≡ 0 }
     {
-        Question {
-            signs: self,
-            sign: 0,
-        }
+        self.at(0)
     }
 }
 
 #[tactic(auto, using(crate::proofs::Asking::laws))]
 impl<'a> Question<'a> {
-    // The sign at which it begins.
-    pub fn sign(&self) -> usize
-        ensures { result ≡ self.now.sign }
-    {
-        self.sign
-    }
-
     // The numbers of that sign.
     fn numbers(&self) -> Sign<'a>
         ensures numbers { result.numbers.now ≡ self.now.signs.now.numbers.now }

@@ -11,9 +11,9 @@ pub const SIGN_LEN: usize = 19;
 // How many signs a question has at most, and how many tests and further questions a sign.
 pub const MAX_SIGNS: usize = 8;
 
-pub const MAX_TESTS: usize = 4;
+pub const MAX_TESTS: u64 = 4;
 
-pub const MAX_FURTHER: usize = 4;
+pub const MAX_FURTHER: u64 = 4;
 
 // Where the numbers of a sign stand: the register, how many tests, the first of them, how many further questions, the
 // first of their columns.
@@ -163,8 +163,8 @@ impl<'a> Sign<'a> {
     fn parts_fit(&self, columns: usize) -> bool
         ensures { result ≡ parts_fit columns self.now.numbers.now self.now.sign }
     {
-        self.tests() <= MAX_TESTS
-            && self.further() <= MAX_FURTHER
+        self.number(TESTS) <= MAX_TESTS
+            && self.number(FURTHER) <= MAX_FURTHER
             && self.tests_fit(columns)
             && self.columns_fit(columns)
     }

@@ -1,12 +1,13 @@
 // Reading a question from its signs: one function reads a question, one its further questions, and they call each
 // other. Each sign is read once.
-ghost use Rattle.std.specs.Prelude.{◌≡◌, ◌+◌, ◌≤◌, [], map, IfOk, MatchResult, Some};
+ghost use Rattle.std.specs.Prelude.{◌≡◌, ◌+◌, ◌≤◌, [], map, IfOk};
 ghost use Rattle.std.specs.List.{range_with_len};
 ghost use Rattle.questions.specs.Meaning.{Means, refusal_in};
 ghost use Rattle.questions.specs.Questions.{first_again};
 ghost use Rattle.questions.specs.Reading.{Noted, outcome, passed};
 ghost use Rattle.questions.specs.Refusals.{signs_refusal};
 ghost use Rattle.questions.specs.Signs.{Short, There, most_signs, reads, register_at};
+ghost use Rattle.questions.specs.Views.{Answers};
 
 use crate::layout::{MAX_SIGNS, SIGN_LEN, Sign};
 use crate::outline::Outline;
@@ -73,7 +74,7 @@ fn gone_twice(numbers: &[u64], count: usize) -> Option<usize>
 
 // Reads the question that all signs stand for, over registers of so many columns each, or answers its refusal.
 pub fn read<'a>(widths: &'a [usize], signs: &'a [u64]) -> Result<Signs<'a>, Refusal>
-    ensures value { MatchResult result (λ s. (s.widths.now ≡ widths.now) × (s.numbers.now ≡ signs.now)) (λ e. signs_refusal widths.now signs.now ≡ Some e) }
+    ensures value { Answers widths.now signs.now (signs_refusal widths.now signs.now) result }
     ensures means { Means widths.now signs.now (refusal_in result) }
 {
     if signs.len() > MAX_SIGNS * SIGN_LEN {
@@ -88,9 +89,5 @@ pub fn read<'a>(widths: &'a [usize], signs: &'a [u64]) -> Result<Signs<'a>, Refu
     if let Some(register) = gone_twice(signs, count) {
         return Err(Refusal::Twice { register });
     }
-    Ok(Signs {
-        widths,
-        numbers: signs,
-        outline: Outline { count, ends },
-    })
+    Ok(Signs::over(widths, signs, Outline { count, ends }))
 }

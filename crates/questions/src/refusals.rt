@@ -20,7 +20,8 @@ pub enum Refusal {
 }
 
 impl Refusal {
-    // The number by which the refusal is told. That of registers answers for its own cases, and this for all.
+    // The number by which the refusal is told. That of registers answers for its own cases, and this for all; so does
+    // `place`.
     pub fn number(self) -> u64
         ensures { result ≡ number self }
     {
@@ -51,7 +52,7 @@ impl From<RegistersRefusal> for Refusal {
     }
 }
 
-// That it is refused, and why.
+// That it is refused, and why: the words that those of registers have, since an `impl` is of one type.
 impl fmt::Display for Refusal {
     ghost output = { λ refusal. Some (refusal_words refusal) };
 

@@ -8,17 +8,17 @@ use crate::outline::Outline;
 // Read over registers of so many columns each; `question` is what they ask.
 #[derive(Clone, Copy)]
 pub struct Signs<'a> {
-    pub(crate) widths: &'a [usize],
-    pub(crate) numbers: &'a [u64],
+    pub widths: &'a [usize],
+    pub numbers: &'a [u64],
     pub outline: Outline,
-    ghost accepted: { is_some (signs_refusal widths.now numbers.now) ≡ false },
-    ghost outlined: { outline ≡ outline_of widths.now numbers.now },
+    pub ghost accepted: { is_some (signs_refusal widths.now numbers.now) ≡ false },
+    pub ghost outlined: { outline ≡ outline_of widths.now numbers.now },
 }
 
 // The question that begins at a sign.
 #[derive(Clone, Copy)]
 pub struct Question<'a> {
-    pub(crate) signs: &'a Signs<'a>,
-    pub(crate) sign: usize,
-    ghost there: { sign < signs.now.outline.count },
+    pub signs: &'a Signs<'a>,
+    pub sign: usize,
+    pub ghost there: { sign < signs.now.outline.count },
 }

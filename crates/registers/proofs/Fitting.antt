@@ -2,7 +2,9 @@
 use Rattle.std.proofs.Common.{◌≡◌, ℕ, zero, suc, ◌+◌, ◌*◌, ◌<◌, ◌≤◌, Bool, true, false, cond, ◌&&◌, leb, List, length, get_or, Some, None, sym, refl, ap, ◌∙◌, ⊎_elim, add-one, arith}
 use Rattle.std.proofs.lemmas.Bool.{and_left, and_right, and_from, and_parts, cases_eq, leb-true, cond-false}
 use Rattle.std.proofs.lemmas.Bool.Decides.{nat_tests}
+use Rattle.std.specs.Borrow.{Bor}
 use Rattle.std.specs.List.{between}
+use Rattle.std.specs.Slice.{IsItemAt}
 use Rattle.registers.specs.Layout.{block_place, block_end, blocks_at, columns_at, register_end}
 use Rattle.registers.specs.Refusals.{blocks_fit, block_fits, register_fits, small}
 use Rattle.registers.proofs.Small.{run, small_between}
@@ -34,12 +36,6 @@ blocks_fit_fails xs w p (suc n) i h e =
     (cases_eq i n)
 
 -- a block fits exactly if it passes the tests, in their order
-pub block_fits_no_heading : (xs : List ℕ) (w p : ℕ) → length xs < p + 2 → block_fits xs w p ≡ false
-block_fits_no_heading xs w p h = grind (arith, nat_tests)
-
-pub block_fits_many_rows : (xs : List ℕ) (w p : ℕ) → 64 < get_or xs (p + 1) 0 → block_fits xs w p ≡ false
-block_fits_many_rows xs w p h = grind (arith, nat_tests)
-
 pub block_fits_cut : (xs : List ℕ) (w p : ℕ) → length xs < block_end xs w p → block_fits xs w p ≡ false
 block_fits_cut xs w p h = grind (arith, nat_tests)
 
@@ -92,6 +88,10 @@ block_place_inside xs w p (suc n) h e =
     let parts = and_parts (blocks_fit xs w p n) (block_fits xs w (block_place xs w p n)) e in
     let before = block_place_inside xs w p n h parts.0 in
     (omega arith, block_fits_inside xs w (block_place xs w p n) parts.1)
+
+-- what is read at a place of the slice
+pub item_there : (xs : List ℕ) (i : ℕ) (x : Bor ℕ) → IsItemAt xs i (Some x) → (i < length xs) × (x.now ≡ get_or xs i 0)
+item_there xs i x h = (h.3.0, h.4 (omega arith) 0)
 
 -- what an optional answer tells of the test that it depends on
 pub from_some : {A : Type 0} (b : Bool) (x y : A) → Some y ≡ cond b (Some x) None → (b ≡ true) × (y ≡ x)

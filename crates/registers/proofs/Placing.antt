@@ -3,7 +3,7 @@ use Rattle.std.proofs.Common.{◌≡◌, ℕ, zero, suc, ◌+◌, ◌-◌, ◌*�
 use borrow.Rule.Slice.PartMut.{put_mid}
 use Rattle.std.specs.List.{between, range_with_len}
 use Rattle.std.proofs.lemmas.List.FromFn.{get_or-map-range_with_len, length-map-range_with_len}
-use Rattle.std.proofs.lemmas.List.{drop-drop, drop-replicate, get_or_past, length-append, length-drop, length-take, take-replicate}
+use Rattle.std.proofs.lemmas.List.{drop-drop, drop-replicate, get_or_past, length-append, length-drop, length-replicate, length-take, take-replicate}
 use Rattle.std.proofs.lemmas.Slice.{between_is, between-put_mid, drop-put_mid, take-put_mid_below}
 use Rattle.std.proofs.lemmas.Bool.{cases_eq, cases_lt, cond-false, cond-true, le-ltb, lt-ltb}
 use Rattle.std.proofs.lemmas.Bool.Decides.{nat_tests}
@@ -198,6 +198,17 @@ there_enough r b slots places l m n =
     let blocks : r.directory.blocks ≡ blocks_before r.base.now (count_of r.base.now) = ap (λ (d : Directory). d.blocks) r.surveyed in
     let few = blocks_few r.base.now r.fits in
     record { fits = r.fits; surveyed = r.surveyed; slots_enough = omega arith; places_enough = omega arith }
+
+-- free room of a size that is enough
+pub room_of : (xs : List ℕ) (directory : Directory) (slots : List Slot) (places : List ℕ) (m n : ℕ) → slots ≡ replicate m free → places ≡ replicate n 0 → Enough xs directory m n → Room xs directory slots places
+room_of xs directory slots places m n s p k =
+    let many : length slots ≡ m = ap length s ∙ length-replicate m free in
+    let noted : length places ≡ n = ap length p ∙ length-replicate n 0 in
+    record {
+      enough = subst (λ (l : ℕ). Enough xs directory (length slots) l) (sym noted) (subst (λ (l : ℕ). Enough xs directory l n) (sym many) k);
+      slots_free = s ∙ ap (λ (l : ℕ). replicate l free) (sym many);
+      places_free = p ∙ ap (λ (l : ℕ). replicate l 0) (sym noted);
+    }
 
 -- in a turn of the loop that fills the room
 pub turn : (xs : List ℕ) (directory : Directory) (slots : List Slot) (places : List ℕ) (m n t : ℕ) (section : Section) → Room xs directory slots places → t < directory.count → m ≡ length slots → n ≡ length places → section ≡ get_or directory.sections t no_section → Turn xs t section m n

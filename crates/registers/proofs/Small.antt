@@ -1,5 +1,5 @@
 -- Numbers below 2^32, told from how many of them stand before the first larger one.
-use Rattle.std.proofs.Common.{◌≡◌, ℕ, zero, suc, ◌+◌, ◌-◌, ◌<◌, ◌≤◌, min, Bool, true, false, cond, ◌&&◌, ltb, leb, List, [], ◌∷◌, length, get_or, take, drop, refl, ◌∙◌, arith}
+use Rattle.std.proofs.Common.{◌≡◌, ℕ, zero, suc, ◌+◌, ◌-◌, ◌<◌, ◌≤◌, min, Bool, true, false, cond, ◌&&◌, ltb, leb, List, [], ◌∷◌, length, fold, get_or, take, drop, refl, ◌∙◌, arith}
 use lib.Bits.{bit_or, or_add_and}
 use Rattle.std.specs.List.{between, prefix_len}
 use Rattle.std.proofs.lemmas.List.{length-take, length-drop}
@@ -68,8 +68,18 @@ run_all (x ∷ xs) h =
     cond-true _ _ _ (lt-ltb x 4294967296 (h 0 (omega arith))) ∙ omega (arith, run_all xs (λ k l. h (suc k) (omega arith)))
 
 -- a number is at most what it becomes by more bits
-pub or_above_left : (a b : ℕ) → a ≤ bit_or a b
+or_above_left : (a b : ℕ) → a ≤ bit_or a b
 or_above_left a b = omega (arith, or_add_and a b, and_le_r a b)
 
-pub or_above_right : (a b : ℕ) → b ≤ bit_or a b
+or_above_right : (a b : ℕ) → b ≤ bit_or a b
 or_above_right a b = omega (arith, or_add_and a b, and_le_l a b)
+
+-- all bits of numbers and of `bits` are at least `bits`, and at least each of the numbers
+or_all_keeps : (xs : List ℕ) (bits : ℕ) → bits ≤ fold bit_or bits xs
+or_all_keeps [] bits = omega arith
+or_all_keeps (x ∷ xs) bits = omega (arith, or_above_left bits x, or_all_keeps xs (bit_or bits x))
+
+pub or_all_above : (xs : List ℕ) (bits k : ℕ) → k < length xs → get_or xs k 0 ≤ fold bit_or bits xs
+or_all_above [] bits k h = absurd (omega arith)
+or_all_above (x ∷ xs) bits zero h = omega (arith, or_above_right bits x, or_all_keeps xs (bit_or bits x))
+or_all_above (x ∷ xs) bits (suc k) h = or_all_above xs (bit_or bits x) k (omega arith)

@@ -8,5 +8,5 @@ pub struct Block<'a> {
     pub rows: usize,
     pub columns: usize,
     pub cells: &'a [u64],
-    ghost shaped: { length cells.now ≡ rows * columns },
+    pub ghost shaped: { length cells.now ≡ rows * columns },
 }

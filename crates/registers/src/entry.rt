@@ -10,17 +10,23 @@ ghost use Rattle.registers.specs.Views.{register_held};
 use crate::layout::survey;
 use crate::refusals::Refusal;
 use crate::registers::{Register, Registers};
+use crate::room::{FreeRoom, FullTable, MiddleRoom, MiddleTable, SmallRoom};
 
 impl Registers<'_> {
-    // Enters all registers into room of a given size, only to see whether they are proper. What bounds the sizes is
-    // said of constants, which no type can carry.
-    fn try_fill<const SLOTS: usize, const PLACES: usize>(&self) -> Result<(), Refusal>
-        requires enough { Enough self.now.base.now self.now.directory SLOTS PLACES }
-        requires sizes { (SLOTS ≤ 65544) × (PLACES ≤ 32768) }
+    // Enters all registers into room of a given size, only to see whether they are proper. It stands apart from
+    // `try_enter`, which enters one register of which only its own table is there: a function for both would be told by
+    // a closure what to enter, and would ask what both ask.
+    fn try_fill<const SLOTS: usize, const PLACES: usize>(
+        &self,
+        room: FreeRoom<SLOTS, PLACES>,
+    ) -> Result<(), Refusal>
+        requires { Enough self.now.base.now self.now.directory SLOTS PLACES }
         ensures { result ≡ answered (refused_at Blocks (misstated self.now.base.now)) tt }
     {
-        let mut slots = [None; SLOTS];
-        let mut places = [0; PLACES];
+        let FreeRoom {
+            mut slots,
+            mut places,
+        } = room;
         self.fill(&mut slots, &mut places)
     }
 
@@ -45,9 +51,9 @@ impl Registers<'_> {
     {
         let blocks = self.directory.blocks;
         if blocks <= 16 {
-            self.try_fill::<40, 16>()
+            self.try_fill(SmallRoom::new())
         } else if blocks <= 512 {
-            self.try_fill::<1032, 512>()
+            self.try_fill(MiddleRoom::new())
         } else {
             self.try_each()
         }
@@ -56,16 +62,20 @@ impl Registers<'_> {
 
 impl<'a> Register<'a> {
     // Enters the register into room of a given size, only to see whether it is proper; with one table and not eight,
-    // and so apart from `try_fill`. The bounds on the sizes are said of constants here, too.
-    fn try_enter<const SLOTS: usize, const PLACES: usize>(&self) -> bool
-        requires enough { (2 * self.now.section.blocks + 1 ≤ SLOTS) × (self.now.section.blocks ≤ PLACES) }
-        requires sizes { (SLOTS ≤ 65544) × (PLACES ≤ 32768) }
+    // and so apart from `try_fill`.
+    fn try_enter<const SLOTS: usize, const PLACES: usize>(
+        &self,
+        room: FreeRoom<SLOTS, PLACES>,
+    ) -> bool
+        requires { (2 * self.now.section.blocks + 1 ≤ SLOTS) × (self.now.section.blocks ≤ PLACES) }
         ensures { result ≡ proper_register (register_held self.now) }
     {
         let blocks = self.section.blocks;
         let size = 2 * blocks + 1;
-        let mut slots = [None; SLOTS];
-        let mut places = [0; PLACES];
+        let FreeRoom {
+            mut slots,
+            mut places,
+        } = room;
         self.enter(&mut slots[..size], &mut places[..blocks])
     }
 
@@ -75,14 +85,14 @@ impl<'a> Register<'a> {
         ensures { result ≡ proper_register (register_held self.now) }
     {
         if self.section.blocks <= 256 {
-            self.try_enter::<513, 256>()
+            self.try_enter(MiddleTable::new())
         } else {
-            self.try_enter::<8193, 4096>()
+            self.try_enter(FullTable::new())
         }
     }
 
-    // The rows under a key, one behind the other, or nothing. As `enter` it goes by the places of the blocks, which the
-    // lemmas speak of.
+    // The rows under a key, one behind the other, or nothing. An iterator of the blocks' places was proved, here and in
+    // `enter`: entering was a seventh slower with it, and for this walk alone it is a hundred lines more.
     fn scan(&self, key: u64) -> Option<&'a [u64]>
         ensures { Shows (register_held self.now) key result }
     {
@@ -98,7 +108,9 @@ impl<'a> Register<'a> {
     }
 }
 
-// The registers of a slice, and where they stand, or the refusal of a slice that stands for none.
+// The registers of a slice, and where they stand, or the refusal of a slice that stands for none. Here, in `survey`, in
+// `indexed` and in the report of the registers the contract says of which slice they are: the answers are of three
+// types, and the refusals two.
 pub fn checked(base: &[u64]) -> Result<Registers, Refusal>
     ensures { MatchResult result (λ r. (r.base.now ≡ base.now) × (refusal base.now ≡ None)) (λ e. refusal base.now ≡ Some e) }
 {

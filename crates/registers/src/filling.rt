@@ -27,7 +27,8 @@ fn clear(slots: &mut [Option<Entry>], places: &mut [usize])
 }
 
 impl Register<'_> {
-    // Enters all blocks of the register; false where a key has two blocks or a block has no row.
+    // Enters all blocks of the register; false where a key has two blocks or a block has no row. It goes from block to
+    // block by places; at `scan` stands why.
     pub(crate) fn enter(&self, table: &mut [Option<Entry>], places: &mut [usize]) -> bool
         requires slots { table.old ≡ replicate (2 * self.now.section.blocks + 1) free }
         requires room { length places.old ≡ self.now.section.blocks }
@@ -55,8 +56,8 @@ impl Register<'_> {
 
 impl Registers<'_> {
     // Enters all registers, or gives the refusal of registers in which a key has two blocks or a block has no row. The
-    // room is then as it was. It is lent as two slices, of any lengths that are enough: a struct of the two would be
-    // made for this one call.
+    // room is then as it was. It is lent as two slices, of any lengths that are enough: a struct of both would be two,
+    // one for the room that is written here and one for the room that an index reads.
     pub fn fill(&self, slots: &mut [Option<Entry>], places: &mut [usize]) -> Result<(), Refusal>
         requires { Room self.now.base.now self.now.directory slots.old places.old }
         ensures answer { result ≡ answered (refused_at Blocks (misstated self.now.base.now)) tt }

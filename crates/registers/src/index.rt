@@ -7,8 +7,8 @@ use crate::table::Entry;
 // Made over room that was filled, and good for any number of look-ups.
 #[derive(Clone, Copy)]
 pub struct Index<'a> {
-    pub(crate) registers: Registers<'a>,
+    pub registers: Registers<'a>,
     pub(crate) slots: &'a [Option<Entry>],
     pub(crate) places: &'a [usize],
-    ghost sound: { ∥ Indexed registers.base.now registers.directory slots.now places.now ∥₁ },
+    pub ghost sound: { ∥ Indexed registers.base.now registers.directory slots.now places.now ∥₁ },
 }

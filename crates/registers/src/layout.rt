@@ -21,8 +21,9 @@ pub const MAX_ROWS: u64 = 64;
 // Numbers are below this.
 pub const NUMBER_LIMIT: u64 = 1 << 32;
 
-// A register in the slice.
-#[derive(Clone, Copy)]
+// A register in the slice. The default is what stands where there is none, and not `None`: the definition
+// `directory_of` says so, which keeps its meaning, and the room for all eight stands in an equation with it.
+#[derive(Clone, Copy, Default)]
 pub struct Section {
     // Where it begins, with its count of blocks and of columns, and the place behind its last block.
     pub place: usize,
@@ -34,15 +35,6 @@ pub struct Section {
 }
 
 impl Section {
-    // What stands where there is no register. The definitions name it too, so no `Default` is derived.
-    pub(crate) const NONE: Section = Section {
-        place: 0,
-        end: 0,
-        blocks: 0,
-        columns: 0,
-        first: 0,
-    };
-
     // Which slots are the table of the register, the t-th of all.
     pub(crate) fn table(&self, t: usize) -> Range<usize>
         requires { 2 * self.now.first + t + 2 * self.now.blocks + 1 < 2 ^ 64 }
@@ -72,15 +64,11 @@ pub struct Directory {
     pub sections: [Section; MAX_REGISTERS],
 }
 
-// The bits that any of the numbers has: no number is larger. A fold would say the same in no fewer words.
+// The bits that any of the numbers has: no number is larger.
 fn all_bits(numbers: &[u64]) -> u64
     ensures { (k : ℕ) → k < length numbers.now → slice_index numbers.now k ≤ result }
 {
-    let mut bits = 0;
-    for x in numbers {
-        bits |= *x;
-    }
-    bits
+    numbers.iter().fold(0, |bits, x| bits | *x)
 }
 
 // How many numbers stand before the first one that is too large. Mostly none is, which is seen without a branch for
@@ -99,10 +87,7 @@ fn block_end(base: &[u64], at: usize, columns: usize) -> Option<usize>
     requires { (at ≤ length base.now) × (columns ≤ 8) }
     ensures { result ≡ (if block_fits base.now columns at then Some (block_end base.now columns at) else None) }
 {
-    if base.len() - at < 2 {
-        return None;
-    }
-    let rows = base[at + 1];
+    let rows = *base.get(at + 1)?;
     if rows > MAX_ROWS {
         return None;
     }
@@ -114,7 +99,8 @@ fn block_end(base: &[u64], at: usize, columns: usize) -> Option<usize>
 }
 
 // The place behind so many blocks from `start` on, if they are all there: where a block ends is known from its heading
-// alone.
+// alone. With `try_fold` the closure would state the invariant of the loop as what it requires and once more as what
+// it ensures.
 fn blocks_end(base: &[u64], start: usize, blocks: usize, columns: usize) -> Option<usize>
     requires { (start ≤ length base.now) × (columns ≤ 8) }
     ensures { result ≡ (if blocks_fit base.now columns start blocks then Some (block_place base.now columns start blocks) else None) }
@@ -132,11 +118,8 @@ fn section_at(base: &[u64], at: usize, first: usize, large: usize) -> Option<Sec
     requires large { large ≡ prefix_len (λ x. nat_lt x 4294967296) base.now }
     ensures { result ≡ (if register_fits base.now at then Some (section_at base.now at first) else None) }
 {
-    if base.len() - at < 2 {
-        return None;
-    }
+    let columns = *base.get(at + 1)?;
     let blocks = base[at];
-    let columns = base[at + 1];
     if blocks > MAX_BLOCKS || columns == 0 || columns > MAX_COLUMNS {
         return None;
     }
@@ -168,7 +151,7 @@ pub fn survey(base: &[u64]) -> Result<Registers, Refusal>
     }
     let count = count as usize;
     let large = before_large(base);
-    let mut sections = [Section::NONE; MAX_REGISTERS];
+    let mut sections = [Section::default(); MAX_REGISTERS];
     let mut at = 1;
     let mut blocks = 0;
     for (t, section) in sections[..count].iter_mut().enumerate() {

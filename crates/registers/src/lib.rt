@@ -15,6 +15,7 @@ mod lookup;
 mod parts;
 pub mod refusals;
 pub mod registers;
+pub mod room;
 pub mod table;
 pub mod theorems;
 

@@ -14,7 +14,7 @@ impl<'a> Registers<'a> {
     pub(crate) fn section(&self, t: usize) -> Section
         ensures { result ≡ slice_index_or self.now.directory.sections t no_section }
     {
-        *self.directory.sections.get(t).unwrap_or(&Section::NONE)
+        self.directory.sections.get(t).copied().unwrap_or_default()
     }
 
     // The register of a number.

@@ -10,8 +10,8 @@ use crate::layout::{Directory, Section};
 pub struct Registers<'a> {
     pub base: &'a [u64],
     pub directory: Directory,
-    ghost fits: { misfit base.now ≡ None },
-    ghost surveyed: { directory ≡ directory_of base.now },
+    pub ghost fits: { misfit base.now ≡ None },
+    pub ghost surveyed: { directory ≡ directory_of base.now },
 }
 
 // One register, and where it stands.

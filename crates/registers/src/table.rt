@@ -18,8 +18,9 @@ fn home(key: u64, slots: usize) -> usize
     ((mixed * slots as u64) >> 32) as usize
 }
 
-// The key's own slot or the first free one on its way. As a chain of the slots from its home on and those before, with
-// `find`, the bound of the index at each turn stayed open; so the loop goes round by hand.
+// The key's own slot or the first free one on its way. Two searches with `position`, from its home on and then before
+// it, were proved, but to enter 64 blocks took a seventh longer, and with `chain` nearly half; so the loop goes round
+// by hand.
 pub(crate) fn probe(table: &[Option<Entry>], key: u64) -> usize
     requires { Open table.now }
     ensures { Probed table.now key result }

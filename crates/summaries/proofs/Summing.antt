@@ -1,17 +1,18 @@
 -- Adding up the blocks of a register, and the registers of a report.
-use Rattle.std.proofs.Common.{◌≡◌, ℕ, ◌+◌, ◌*◌, ◌<◌, ◌≤◌, ltb, ◌⊎◌, List, [], map, length, get_or, take, set, sum_by, count_by, sym, ap, ◌∙◌, ap₂, ⊎_elim, arith, below_more}
+use Rattle.std.proofs.Common.{◌≡◌, ℕ, zero, suc, ◌+◌, ◌*◌, ◌<◌, ◌≤◌, ltb, ◌⊎◌, List, [], map, length, get_or, take, sum_by, count_by, refl, sym, ap, ◌∙◌, ap₂, subst, ⊎_elim, arith}
+use Rattle.std.specs.Array.{IsFromFnResult, IsFromFnResultFrom}
+use Rattle.std.specs.Fn.{Called, Mut}
 use Rattle.std.specs.List.{range_with_len}
-use Rattle.std.proofs.lemmas.List.{get_or-set_other, get_or-set_same, get_or-take, length-set, length-take, take_all}
-use Rattle.std.proofs.lemmas.List.FromFn.{fill_by_all}
+use Rattle.std.proofs.lemmas.List.{take_all}
+use Rattle.std.proofs.lemmas.List.FromFn.{fill_by_all, take-map-range_with_len}
 use Rattle.std.proofs.lemmas.List.Sums.{count_by_more_no, count_by_more_yes, sum_by_more}
-use Rattle.std.proofs.lemmas.Bool.{le-ltb, lt-ltb}
+use Rattle.std.proofs.lemmas.Bool.{cases_lt, le-ltb, lt-ltb}
 use Rattle.registers.specs.Base.{Register, block}
-use Rattle.registers.specs.Layout.{count_of}
 use Rattle.registers.specs.Views.{held}
 use Rattle.registers.specs.declared.blocks.Block.{Block as Part}
 use Rattle.registers.proofs.Noting.{length_rows_from}
 use Rattle.summaries.specs.declared.summary.Summary.{Summary}
-use Rattle.summaries.specs.Summary.{no_summary, rows_of, summary_of}
+use Rattle.summaries.specs.Summary.{no_summary, rows_of}
 
 -- the rows and the contested keys of the first i blocks
 pub record Summed (r : Register) (i rows contested : ℕ) : Type 0 where
@@ -47,23 +48,20 @@ summed_all r i rows contested s l =
 pub same_summary : {a b c d a' b' c' d' : ℕ} → a ≡ a' → b ≡ b' → c ≡ c' → d ≡ d' → ◌≡◌ {A = Summary} (record { blocks = a; columns = b; rows = c; contested = d }) (record { blocks = a'; columns = b'; rows = c'; contested = d' })
 same_summary p q r s = λ i. record { blocks = p i; columns = q i; rows = r i; contested = s i }
 
--- the registers that are summed up so far
-pub record Reporting (xs : List ℕ) (t : ℕ) (summaries : List Summary) : Type 0 where
-  pub wide : length summaries ≡ 8
-  pub each : (i : ℕ) → i < t → get_or summaries i no_summary ≡ summary_of xs i
+-- what the calls of a closure give one after the other, where none changes the closure
+module _ {F : Type 0} (g : Mut F (ℕ × Unit {0}) Summary) (f : F) (of : ℕ → Summary) (called : (t : ℕ) (s : Summary) (q : F) → Called g f (t, tt) s q → (s ≡ of t) × (q ≡ f)) where
+  given_at : (p : F) (summaries : List Summary) (i n : ℕ) → p ≡ f → IsFromFnResultFrom g p summaries i n → (t : ℕ) → i ≤ t → t < i + n → get_or summaries t no_summary ≡ of t
+  given_at p summaries i zero same r t l m = absurd (omega arith)
+  given_at p summaries i (suc n) same r t l m =
+      let first = called i r.1 r.0 (subst (λ (x : F). Called g x (i, tt) r.1 r.0) same r.3) in
+      ⊎_elim
+      (λ later. given_at r.0 summaries (i + 1) n first.1 r.4 t (omega arith) (omega arith))
+      (λ here. let at : t ≡ i = omega arith in ap (λ (k : ℕ). get_or summaries k no_summary) at ∙ r.2.1 no_summary ∙ first.0 ∙ ap of (sym at))
+      (cases_lt i t)
 
-pub reporting_more : (xs : List ℕ) (t : ℕ) (summaries : List Summary) (s : Summary) → Reporting xs t summaries → t < 8 → s ≡ summary_of xs t → Reporting xs (t + 1) (set summaries t s)
-reporting_more xs t summaries s k l e =
-    let long : t < length summaries = omega (arith, k.wide) in
-    record {
-      wide = length-set summaries t s ∙ k.wide;
-      each = below_more (λ i. get_or (set summaries t s) i no_summary ≡ summary_of xs i) t
-          (λ i h. get_or-set_other summaries t i s no_summary (λ same. omega arith) ∙ k.each i h)
-          (get_or-set_same summaries t s no_summary long ∙ e);
-    }
-
-pub reporting_ends : (xs : List ℕ) (n t : ℕ) (summaries : List Summary) → Reporting xs t summaries → n ≡ count_of xs → count_of xs ≤ t → count_of xs ≤ 8 → take n summaries ≡ map (summary_of xs) (range_with_len 0 (count_of xs))
-reporting_ends xs n t summaries k e l m =
-    fill_by_all (summary_of xs) (take n summaries) (count_of xs) no_summary
-    (length-take n summaries ∙ omega (arith, k.wide))
-    (λ i h. get_or-take n summaries i no_summary (omega arith) ∙ k.each i (omega arith))
+  -- the first of them
+  pub given_first : (summaries : List Summary) (n taken count : ℕ) → IsFromFnResult g f summaries n → taken ≡ count → count ≤ n → take taken summaries ≡ map of (range_with_len 0 count)
+  given_first summaries n taken count r same few =
+      ap (λ (k : ℕ). take k summaries) same
+      ∙ ap (take count) (fill_by_all of summaries n no_summary r.long (λ t l. given_at f summaries 0 n refl r.each t (omega arith) (omega arith)))
+      ∙ take-map-range_with_len of 0 n count few

@@ -5,7 +5,7 @@ ghost use Rattle.summaries.specs.Words.{counted, report_words, told_contested, w
 use crate::summary::{Report, Summary};
 use std::fmt;
 
-// So many of what a word stands for.
+// So many of what a word stands for. A type, since `write!` takes what is printed; its text is `counted`.
 #[derive(Drop)]
 struct Count {
     number: usize,
@@ -22,7 +22,7 @@ impl fmt::Display for Count {
     }
 }
 
-// Under how many keys the boards say different things.
+// Under how many keys the boards say different things. A type, as `Count` is; its text is `told_contested`.
 #[derive(Drop)]
 struct Contested {
     keys: usize,

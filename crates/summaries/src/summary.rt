@@ -5,14 +5,15 @@ ghost use Rattle.registers.specs.Layout.{count_of};
 ghost use Rattle.registers.specs.Refusals.{refusal};
 ghost use Rattle.summaries.specs.Summary.{summary_of};
 
-use registers::filling::{MAX_PLACES, MAX_SLOTS};
 use registers::index::Index;
 use registers::layout::{MAX_REGISTERS, survey};
 use registers::refusals::Refusal;
 use registers::registers::Registers;
+use registers::room::{FreeRoom, FullRoom};
+use std::array;
 
 // How large a register is, and under how many of its keys more than one row stands.
-#[derive(Clone, Copy, Default)]
+#[derive(Clone, Copy)]
 pub struct Summary {
     pub blocks: usize,
     pub columns: usize,
@@ -20,14 +21,14 @@ pub struct Summary {
     pub contested: usize,
 }
 
-// The registers of a slice that are not refused, and what is told of each. The summaries stand in room for eight, as
-// the registers do.
+// The registers of a slice that are not refused, and what is told of each. The summaries stand in room for eight, so
+// that `summarize` cannot fail for want of memory.
 #[derive(Clone, Copy)]
 pub struct Report<'a> {
     pub registers: Registers<'a>,
     summaries: [Summary; MAX_REGISTERS],
-    ghost sound: { refusal registers.base.now ≡ None },
-    ghost told: { take registers.directory.count summaries ≡ map (summary_of registers.base.now) (range_with_len 0 (count_of registers.base.now)) },
+    pub ghost sound: { refusal registers.base.now ≡ None },
+    pub ghost told: { take registers.directory.count summaries ≡ map (summary_of registers.base.now) (range_with_len 0 (count_of registers.base.now)) },
 }
 
 // Goes over the blocks of one register, once for both sums.
@@ -36,6 +37,8 @@ fn sum_up(index: &Index, t: usize) -> Summary
 {
     let mut rows = 0;
     let mut contested = 0;
+    // One walk for both sums: two chains would read each block twice, and the closure of a fold would need the bound of
+    // each sum besides.
     for i in 0..index.blocks(t) {
         let block = index.block(t, i);
         rows += block.rows;
@@ -56,13 +59,12 @@ pub fn summarize(base: &[u64]) -> Result<Report, Refusal>
     ensures { MatchResult result (λ r. r.registers.base.now ≡ base.now) (λ e. refusal base.now ≡ Some e) }
 {
     let registers = survey(base)?;
-    let mut slots = [None; MAX_SLOTS];
-    let mut places = [0; MAX_PLACES];
+    let FreeRoom {
+        mut slots,
+        mut places,
+    } = FullRoom::new();
     let index = registers.indexed(&mut slots, &mut places)?;
-    let mut summaries = [Summary::default(); MAX_REGISTERS];
-    for (t, summary) in summaries.iter_mut().enumerate() {
-        *summary = sum_up(&index, t);
-    }
+    let summaries = array::from_fn(|t| sum_up(&index, t));
     Ok(Report {
         registers,
         summaries,

@@ -1,5 +1,7 @@
-// How long work takes, and what it finds.
+// How long work takes, what it finds, and whether a benchmark tells answers or figures.
 #![tactic(auto)]
+
+mod choosing;
 
 ghost use Rattle.std.specs.Prelude.{◌≡◌, ◌+◌, ◌*◌, ◌/◌, ◌%◌, max, Some, IfOk, OnOk, OnErr};
 ghost use Rattle.std.specs.Duration.{as_nanos};
@@ -7,11 +9,15 @@ ghost use Rattle.timing.specs.Finds.{found_of};
 ghost use Rattle.timing.specs.Runs.{untimed, with_run, Adds, IsOfRuns};
 ghost use Rattle.timing.specs.Printing.{printed};
 
+pub use choosing::answers_or_figures;
 use std::iter::Sum;
 use std::time::{Clock, Duration, Instant};
 use std::{fmt, io};
 
-// What a run found: how many keys, copies or blocks, and what they add up to. Both wrap.
+// How many runs the benchmarks take the least time of.
+pub const RUNS: usize = 15;
+
+// What a run found: how many keys or copies, and what they add up to. Both wrap.
 #[derive(Clone, Copy, Debug, PartialEq, Eq, Default)]
 pub struct Found {
     pub count: u64,
@@ -21,6 +27,7 @@ pub struct Found {
 impl Sum<u64> for Found {
     ghost sum_gives = { λ parts found. found ≡ found_of parts };
 
+    // A loop, whose invariant is the promise itself; a fold would need a lemma besides.
     fn sum<I: Iterator<Item = u64>>(parts: I) -> Found {
         let mut found = Found::default();
         for part in parts {

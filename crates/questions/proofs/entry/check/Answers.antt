@@ -5,7 +5,7 @@ use Rattle.questions.specs.declared.refusals.Refusal.{Refusal}
 use Rattle.questions.specs.declared.refusals.Refusal.TheVariants.{Registers}
 use Rattle.questions.specs.Meaning.{Means}
 use Rattle.questions.specs.Refusals.{answered}
-use Rattle.questions.proofs.Columns.{accepted_by, columns_by, length_widths, refused_by, refused_first, widths_few}
+use Rattle.questions.proofs.Columns.{columns_by, length_widths, refused_first, refused_next, widths_few}
 use Rattle.questions.proofs.entry.check.Goals as goal
 
 pub returns-in_err-registers : goal.returns-in_err-registers
@@ -32,7 +32,7 @@ returns-in_err-read c =
     let widths = ap (take c.in_ok-registers.registers.directory.count) c.widths-widths.ensures in
     rw told
     (record {
-      value = ap (λ (o : Option Refusal). answered o tt) (sym (refused_by c.in_ok-registers.registers _ _ _ _ sound.0 sound.1 widths c.in_err-read.ensures.value));
+      value = ap (λ (o : Option Refusal). answered o tt) (sym (refused_next c.in_ok-registers.registers _ _ _ _ sound.0 sound.1 widths c.in_err-read.ensures.value));
       means = λ none. subst (λ (ws : List ℕ). Means ws c.args.signs.now (Some c.in_err-read.field-0.0)) (columns_by c.in_ok-registers.registers _ _ sound.0 widths) c.in_err-read.ensures.means;
     })
 
@@ -41,6 +41,6 @@ returns c =
     let sound = c.in_ok-registers.ensures in
     let widths = ap (take c.in_ok-registers.registers.directory.count) c.widths-widths.ensures in
     record {
-      value = ap (λ (o : Option Refusal). answered o tt) (sym (accepted_by c.in_ok-registers.registers _ _ _ c.in_ok-read.field-0 sound.0 sound.1 widths c.in_ok-read.ensures.value));
+      value = ap (λ (o : Option Refusal). answered o tt) (sym (refused_next c.in_ok-registers.registers _ _ _ _ sound.0 sound.1 widths c.in_ok-read.ensures.value.0));
       means = λ none. subst (λ (ws : List ℕ). Means ws c.args.signs.now None) (columns_by c.in_ok-registers.registers _ _ sound.0 widths) c.in_ok-read.ensures.means;
     }

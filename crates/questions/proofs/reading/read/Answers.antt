@@ -1,7 +1,7 @@
-use Rattle.std.proofs.Common.{rules, ◌≡◌, is_some, Err, refl, sym, ap, ◌∙◌, arith}
+use Rattle.std.proofs.Common.{rules, ◌≡◌, Err, sym, ◌∙◌, arith}
 use Rattle.questions.proofs.Meaning.{means}
 use Rattle.questions.proofs.Passing.{outcome_bounds}
-use Rattle.questions.proofs.Telling.{outlined, told_left, told_long, told_unread, told_whole}
+use Rattle.questions.proofs.Telling.{answered_none, outlined, told_left, told_long, told_unread, told_whole}
 use Rattle.questions.proofs.reading.read.Goals as goal
 
 pub returns-then-signs : goal.returns-then-signs
@@ -30,16 +30,14 @@ returns-in-Some c =
     let value = told_whole _ _ c.if-signs.false _ _ (sym c.in_ok-count.was ∙ c.question.ensures.answer) c.if-count-signs.false (sym c.in-Some.is ∙ c.gone_twice.ensures) in
     record { value = value; means = means _ _ _ value }
 
-pub invariant_of-result : goal.invariant_of-result
-invariant_of-result c =
+pub over-requires : goal.over-requires
+over-requires c =
     let answer = sym c.in_ok-count.was ∙ c.question.ensures.answer in
-    let none = told_whole _ _ c.if-signs.false _ _ answer c.if-count-signs.false (sym c.in_default.is ∙ c.gone_twice.ensures) in
-    record {
-      accepted = ap is_some none;
-      outlined = outlined _ _ c.if-signs.false _ _ answer c.if-count-signs.false c.question.array_long c.in_ok-count.ensures.noted;
-    }
+    answered_none _ _ _
+    (told_whole _ _ c.if-signs.false _ _ answer c.if-count-signs.false (sym c.in_default.is ∙ c.gone_twice.ensures))
+    (outlined _ _ c.if-signs.false _ _ answer c.if-count-signs.false c.question.array_long c.in_ok-count.ensures.noted)
 
 pub returns : goal.returns
 returns c =
     let none = told_whole _ _ c.if-signs.false _ _ (sym c.in_ok-count.was ∙ c.question.ensures.answer) c.if-count-signs.false (sym c.in_default.is ∙ c.gone_twice.ensures) in
-    record { value = (refl, refl); means = means _ _ _ none }
+    record { value = (none, c.over.ensures.widths, c.over.ensures.numbers); means = means _ _ _ none }

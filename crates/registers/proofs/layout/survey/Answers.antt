@@ -6,6 +6,7 @@ use Rattle.registers.specs.declared.layout.Section.{Section}
 use Rattle.registers.specs.declared.refusals.Refusal.TheVariants.{Layout}
 use Rattle.registers.specs.Layout.{blocks_at}
 use Rattle.registers.specs.Refusals.{refused_at}
+use Rattle.registers.specs.Survey.{no_section}
 use Rattle.registers.proofs.Small.{run}
 use Rattle.registers.proofs.Fitting.{fit_from, from_some, from_none}
 use Rattle.registers.proofs.Surveying.{passed_begins, passed_item, misfit_count, misfit_stops, misfit_ends, directory_ends, first_none, first_some, run_begins}
@@ -29,7 +30,8 @@ pub loop-t-init : goal.loop-t-init
 loop-t-init c =
     let something : c.first.result ≡ Some c.in_ok-count.field-0 = search rules in
     let some = first_some c.args.base.now _ (ap option_copied (sym something) ∙ c.first.ensures.value) in
-    passed_begins _ _ (omega (arith, c.if-count.false)) (run_begins c.args.base.now some.0 (omega (arith, c.if-count.false)))
+    let none : c.default-sections.result ≡ no_section = search rules in
+    rw none (passed_begins _ _ (omega (arith, c.if-count.false)) (run_begins c.args.base.now some.0 (omega (arith, c.if-count.false))))
 
 pub returns-in_err-section : goal.returns-in_err-section
 returns-in_err-section c =
@@ -68,8 +70,9 @@ pub invariant_of-result : goal.invariant_of-result
 invariant_of-result c =
     let something : c.first.result ≡ Some c.in_ok-count.field-0 = search rules in
     let some = first_some c.args.base.now _ (ap option_copied (sym something) ∙ c.first.ensures.value) in
+    let none : c.default-sections.result ≡ no_section = search rules in
     record {
       fits = misfit_ends c.args.base.now c.loop-t.t c.loop-t.at c.loop-t.blocks _ c.loop-t.invariant.1 (omega arith) (grind (arith, nat_tests))
           ∙ cond-true _ _ _ (le-leb (length c.args.base.now) (run c.args.base.now) (omega arith));
-      surveyed = directory_ends c.args.base.now _ c.loop-t.t c.loop-t.at c.loop-t.blocks _ c.loop-t.invariant.1 some.1 (omega arith);
+      surveyed = rw none (directory_ends c.args.base.now _ c.loop-t.t c.loop-t.at c.loop-t.blocks _ c.loop-t.invariant.1 some.1 (omega arith));
     }

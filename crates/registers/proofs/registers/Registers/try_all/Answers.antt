@@ -4,8 +4,8 @@ use Rattle.registers.proofs.registers.Registers.try_all.Goals as goal
 
 pub try_fill-requires : goal.try_fill-requires
 try_fill-requires c =
-    record { enough = there_enough c.args.self.now 16 _ _ c.if-blocks-le16.true (lit≤ tt) (lit≤ tt); sizes = (lit≤ tt, lit≤ tt) }
+    (lit≤ tt, there_enough c.args.self.now 16 _ _ c.if-blocks-le16.true (lit≤ tt) (lit≤ tt))
 
 pub try_fill-requires-then-blocks-le512 : goal.try_fill-requires-then-blocks-le512
 try_fill-requires-then-blocks-le512 c =
-    record { enough = there_enough c.args.self.now 512 _ _ c.if-blocks-le512.true (lit≤ tt) (lit≤ tt); sizes = (lit≤ tt, lit≤ tt) }
+    (lit≤ tt, there_enough c.args.self.now 512 _ _ c.if-blocks-le512.true (lit≤ tt) (lit≤ tt))

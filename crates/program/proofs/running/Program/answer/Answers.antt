@@ -1,6 +1,6 @@
 use Rattle.std.proofs.Common.{◌≡◌, Ok, Err, OnOk, Result, refl, subst}
 use Rattle.std.specs.Result.{IsErrAnd, MatchResult}
-use Rattle.program.proofs.running.run.Goals as goal
+use Rattle.program.proofs.running.Program.answer.Goals as goal
 
 -- what is told where no error was put in the place of another
 told : {E F Q : Type 0} (R : E → F → Type 0) (r : Result (Unit {0}) E) (o : Result (Unit {0}) F) → MatchResult r (λ x. o ≡ Ok x) (λ e. IsErrAnd o (R e)) → (r ≡ Ok tt → Q) → OnOk o Q

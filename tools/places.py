@@ -14,7 +14,8 @@ import sys
 
 folder = next((a for a in sys.argv[1:] if not a.startswith("-")), os.path.join(os.path.dirname(__file__), ".."))
 listed = "--list" in sys.argv
-sources = {os.path.relpath(p, folder): open(p).read() for p in sorted(glob.glob(folder + "/crates/*/src/**/*.rt", recursive=True))}
+paths = sorted(glob.glob(folder + "/crates/*/src/**/*.rt", recursive=True))
+sources = {os.path.relpath(path, folder): open(path).read() for path in paths}
 
 
 def tell(name, places):
@@ -61,23 +62,27 @@ def functions():
 
 
 print("1. Option, Result, errors")
-tell("`let .. else` or `match` that hands on what it met", list(blocks(r"let (?:Ok|Some)\([^;]*?else \{\s*return (?:None|Err|read|surveyed|tried|filled)[^;]*;")) + list(blocks(r"Err\(\w+\) => (?:return )?Err\(")))
+handed = r"let (?:Ok|Some)\([^;]*?else \{\s*return (?:None|Err|read|surveyed|tried|filled)[^;]*;"
+again = r"Err\(\w+\) => (?:return )?Err\("
+tell("`let .. else` or `match` that hands on what it met", [*blocks(handed), *blocks(again)])
 tell("results joined by `and`", list(lines(r"\.and\(")))
 tell("0 or a constant in the place of nothing", list(lines(r"0 where|const NONE|::NONE\b|FREE\b|entry == 0|u8\s*$")))
 tell("kinds and refusals as numbers", list(lines(r"fn of\(number|Kind::of\(|kind > MAX_KIND")))
 print("2. Twins")
 runs = collections.defaultdict(list)
 for path, text in sources.items():
-    kept = [(i, l.strip()) for i, l in enumerate(text.split("\n"), 1) if l.strip() and not l.startswith(("ghost use", "use "))]
+    numbered = enumerate(map(str.strip, text.split("\n")), 1)
+    kept = [(i, line) for i, line in numbered if line and not line.startswith(("ghost use", "use "))]
     for a in range(len(kept) - 5):
-        runs[tuple(l for _, l in kept[a : a + 6])].append((path, kept[a][0]))
-tell("runs of six lines that stand twice", [f"{v[0][0]}:{v[0][1]} and {v[1][0]}:{v[1][1]}" for v in runs.values() if len(v) > 1])
+        runs[tuple(line for _, line in kept[a : a + 6])].append(f"{path}:{kept[a][0]}")
+tell("runs of six lines that stand twice", [" and ".join(v[:2]) for v in runs.values() if len(v) > 1])
 print("3. Loops")
 tell("`for` over a range of numbers", list(lines(r"\bfor \w+ in [^{]*\.\.")))
 tell("  of them, loops that index by what they count", list(indexing()))
 tell("`while`", list(lines(r"\bwhile\b")))
 print("4. Equality, order, conversion, printing")
-tell("types made only to print another", list(lines(r"^(?:pub(?:\(crate\))? )?struct \w*(?:Line|Words)\b")))
+printing = r"^(?:pub(?:\(crate\))? )?struct \w*(?:Line|Words|Count|Contested)\b"
+tell("types made only to print another", list(lines(printing)))
 tell("hand-written conversions", list(lines(r"fn of\(")))
 print("5. Facts and parameters that travel together")
 facts, pairs = collections.defaultdict(set), collections.defaultdict(set)
@@ -88,9 +93,18 @@ for crate, name, parameters, clauses in functions():
                 facts[crate, head].add(name)
     given = sorted({p.strip() for p in parameters.split(",") if ":" in p})
     for pair in itertools.combinations(given, 2):
-        pairs[crate, pair].add(name)
-tell("facts that three or more functions of a crate require", [f"{k[0]}: {k[1]}: {', '.join(sorted(v))}" for k, v in facts.items() if len(v) > 2])
-tell("pairs of parameters of three or more functions of a crate", [f"{k[0]}: {'; '.join(k[1])}: {', '.join(sorted(v))}" for k, v in pairs.items() if len(v) > 2])
+        pairs[crate, "; ".join(pair)].add(name)
+
+
+def often(places):
+    """What three or more functions of a crate have, with their names."""
+    for (crate, what), names in places.items():
+        if len(names) > 2:
+            yield f"{crate}: {what}: {', '.join(sorted(names))}"
+
+
+tell("facts that three or more functions of a crate require", list(often(facts)))
+tell("pairs of parameters of three or more functions of a crate", list(often(pairs)))
 print("6. Arrays and lengths")
 tell("fields that are arrays of a fixed length", list(lines(r"^\s+(?:pub |pub\(crate\) )?\w+: \[\w+; \w+\],")))
 tell("parts from 0 on", list(lines(r"\[0\.\.\w")))

@@ -1,5 +1,5 @@
 -- Laws of what fits: one block or register more, and that what fails early fails in the whole.
-use Rattle.std.proofs.Common.{◌≡◌, ℕ, zero, suc, ◌+◌, ◌*◌, ◌<◌, ◌≤◌, Bool, true, false, cond, ◌&&◌, leb, List, length, get_or, Some, None, sym, refl, ap, ◌∙◌, ⊎_elim, add-one, arith}
+use Rattle.std.proofs.Common.{◌≡◌, ℕ, zero, suc, ◌+◌, ◌*◌, ◌<◌, ◌≤◌, Bool, true, false, cond, ◌&&◌, leb, List, length, get_or, Some, None, sym, refl, ap, ◌∙◌, subst, ⊎_elim, add-one, arith}
 use Rattle.std.proofs.lemmas.Bool.{and_left, and_right, and_from, and_parts, cases_eq, leb-true, cond-false}
 use Rattle.std.proofs.lemmas.Bool.Decides.{nat_tests}
 use Rattle.std.specs.Borrow.{Bor}
@@ -88,6 +88,28 @@ block_place_inside xs w p (suc n) h e =
     let parts = and_parts (blocks_fit xs w p n) (block_fits xs w (block_place xs w p n)) e in
     let before = block_place_inside xs w p n h parts.0 in
     (omega arith, block_fits_inside xs w (block_place xs w p n) parts.1)
+
+-- later blocks stand behind earlier ones
+block_place_up : (xs : List ℕ) (w p i n : ℕ) → i ≤ n → block_place xs w p i ≤ block_place xs w p n
+unfolding block_place block_end
+block_place_up xs w p i zero h = let e : i ≡ 0 = omega arith in subst (λ (j : ℕ). block_place xs w p j ≤ p) (sym e) (omega arith)
+block_place_up xs w p i (suc n) h =
+    ⊎_elim (λ same. subst (λ (j : ℕ). block_place xs w p j ≤ block_place xs w p (suc n)) (sym same) (omega arith))
+    (λ other. omega (arith, block_place_up xs w p i n (omega arith)))
+    (cases_eq i (suc n))
+
+block_end_is : (xs : List ℕ) (w p : ℕ) → block_end xs w p ≡ p + 2 + get_or xs (p + 1) 0 * w
+unfolding block_end
+block_end_is xs w p = refl
+
+-- each of n blocks begins behind their beginning, and ends before their end
+pub block_within : (xs : List ℕ) (w p n i : ℕ) → i < n → (p ≤ block_place xs w p i) × (block_place xs w p i + 2 + get_or xs (block_place xs w p i + 1) 0 * w ≤ block_place xs w p n)
+block_within xs w p n i h =
+    let start = block_place_up xs w p 0 i (omega arith) in
+    let next = block_place_up xs w p (i + 1) n (omega arith) in (
+      omega (arith, block_place_none xs w p),
+      omega (arith, block_place_more xs w p i, block_end_is xs w (block_place xs w p i)),
+    )
 
 -- what is read at a place of the slice
 pub item_there : (xs : List ℕ) (i : ℕ) (x : Bor ℕ) → IsItemAt xs i (Some x) → (i < length xs) × (x.now ≡ get_or xs i 0)

@@ -1,51 +1,23 @@
 -- A slice that is not refused stands for registers within all limits.
-use Rattle.std.proofs.Common.{◌≡◌, ℕ, zero, suc, ◌+◌, ◌-◌, ◌*◌, ◌^◌, ◌<◌, ◌≤◌, true, not, ltb, List, [], ◌∷◌, length, get_or, None, sym, refl, ap, ◌∙◌, subst, ⊎_elim, mul-le-mul_right, arith}
+use Rattle.std.proofs.Common.{◌≡◌, ℕ, zero, suc, ◌+◌, ◌*◌, ◌^◌, ◌<◌, ◌≤◌, true, not, ltb, List, [], ◌∷◌, length, get_or, None, sym, refl, ap, ◌∙◌, subst, mul-le-mul_right, arith}
 use mathlib.Core.Logic.{∥∥₁_elim}
 use base.Stored.{coded_bool, coded_ℕ}
 use denote.Struct.Props.{≡_prop}
 use native.Mathlib.Bridge.{le_prop}
-use Rattle.std.specs.List.{between}
 use Rattle.std.proofs.lemmas.List.FromFn.{length-map-range_with_len}
-use Rattle.std.proofs.lemmas.List.Edits.{get_or-between, length-between}
 use Rattle.std.proofs.lemmas.List.{get_or-drop, get_or-take, length-drop, length-take}
-use Rattle.std.proofs.lemmas.Bool.{and_from, and_parts, cases_eq, ltb-true}
+use Rattle.std.proofs.lemmas.Bool.{and_from, and_parts, ltb-true}
 use Rattle.registers.specs.declared.index.Index.{Index}
 use Rattle.registers.specs.Base.{Base, Block, Register, block, has_key, proper, proper_register, register}
-use Rattle.registers.specs.Layout.{base_of, block_at, block_end, block_place, blocks_at, columns_at, columns_of, count_of, register_at, register_end, register_place, row_at}
+use Rattle.registers.specs.Layout.{base_of, block_at, block_place, blocks_at, columns_at, columns_of, count_of, register_at, register_end, register_place, row_at}
 use Rattle.registers.specs.Limits.{LimitsHold, Within, block_in}
-use Rattle.registers.specs.Refusals.{misstated, refusal, register_fits, small}
+use Rattle.registers.specs.Refusals.{misstated, refusal, register_fits}
 use Rattle.registers.proofs.Finding.{sound_parts}
-use Rattle.registers.proofs.Fitting.{Fit, Inside, block_place_more, block_place_none, fit_from, inside_from}
+use Rattle.registers.proofs.Small.{small_inside}
+use Rattle.registers.proofs.Fitting.{Fit, Inside, block_within, fit_from, inside_from}
 use Rattle.registers.proofs.Noting.{block_fits_at, key_block, length_block}
 use Rattle.registers.proofs.Placing.{count_few, count_some, first_failing_none, misfit_none}
 use Rattle.registers.proofs.Views.{block_there, columns_there, length_register, register_there, row_there}
-
--- each number of small numbers is small
-small_at : (xs : List ℕ) (k : ℕ) → small xs ≡ true → k < length xs → get_or xs k 0 < 2 ^ 32
-unfolding small
-small_at [] k e h = absurd (omega arith)
-small_at (x ∷ xs) zero e h = ltb-true x 4294967296 (and_parts (ltb x 4294967296) (small xs) e).0
-small_at (x ∷ xs) (suc k) e h = small_at xs k (and_parts (ltb x 4294967296) (small xs) e).1 (omega arith)
-
-small_inside : (xs : List ℕ) (p e k : ℕ) → small (between p e xs) ≡ true → e ≤ length xs → p ≤ k → k < e → get_or xs k 0 < 2 ^ 32
-small_inside xs p e k s l a b =
-    let at : p + (k - p) ≡ k = omega arith in
-    let inside : k - p < length (between p e xs) = omega (arith, length-between xs p e l) in
-    subst (λ (j : ℕ). get_or xs j 0 < 2 ^ 32) at
-    (subst (λ (n : ℕ). n < 2 ^ 32) (get_or-between xs p e (k - p) 0 (omega arith)) (small_at (between p e xs) (k - p) s inside))
-
--- later blocks stand behind earlier ones
-block_place_up : (xs : List ℕ) (w p i n : ℕ) → i ≤ n → block_place xs w p i ≤ block_place xs w p n
-unfolding block_place block_end
-block_place_up xs w p i zero h = let e : i ≡ 0 = omega arith in subst (λ (j : ℕ). block_place xs w p j ≤ p) (sym e) (omega arith)
-block_place_up xs w p i (suc n) h =
-    ⊎_elim (λ same. subst (λ (j : ℕ). block_place xs w p j ≤ block_place xs w p (suc n)) (sym same) (omega arith))
-    (λ other. omega (arith, block_place_up xs w p i n (omega arith)))
-    (cases_eq i (suc n))
-
-block_end_is : (xs : List ℕ) (w p : ℕ) → block_end xs w p ≡ p + 2 + get_or xs (p + 1) 0 * w
-unfolding block_end
-block_end_is xs w p = refl
 
 -- what is known of the i-th block of the t-th register
 record Known (xs : List ℕ) (t i at : ℕ) : Type 0 where
@@ -78,15 +50,14 @@ known xs t i e h l =
     let fit = fit_from xs (register_place xs t) (fits_at xs t e h) in
     let few : i < blocks_at xs (register_place xs t) = omega (arith, ap length there, length_register xs (register_place xs t)) in
     let inside = inside_from xs _ _ (block_fits_at xs (columns_at xs (register_place xs t)) (register_place xs t + 2) (blocks_at xs (register_place xs t)) i fit.blocks few) in
-    let start = block_place_up xs (columns_at xs (register_place xs t)) (register_place xs t + 2) 0 i (omega arith) in
-    let next = block_place_up xs (columns_at xs (register_place xs t)) (register_place xs t + 2) (i + 1) (blocks_at xs (register_place xs t)) (omega arith) in
+    let within = block_within xs (columns_at xs (register_place xs t)) (register_place xs t + 2) (blocks_at xs (register_place xs t)) i few in
     record {
       fit = fit;
       is = ap (λ (r : Register). block r i) there ∙ block_there xs (register_place xs t) i few;
       columns = columns_there xs t less;
-      begins = omega (arith, block_place_none xs (columns_at xs (register_place xs t)) (register_place xs t + 2));
+      begins = omega (arith, within.0);
       inside = inside;
-      ends = omega (arith, block_place_more xs (columns_at xs (register_place xs t)) (register_place xs t + 2) i, block_end_is xs (columns_at xs (register_place xs t)) (block_place xs (columns_at xs (register_place xs t)) (register_place xs t + 2) i));
+      ends = within.1;
     }
 
 -- the rows of that block

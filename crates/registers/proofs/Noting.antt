@@ -1,5 +1,5 @@
 -- Entering the blocks of one register, block by block.
-use Rattle.std.proofs.Common.{◌≡◌, ℕ, zero, suc, ◌+◌, ◌*◌, ◌<◌, ◌≤◌, Bool, true, false, not, ◌&&◌, ltb, ◌⊎◌, List, [], ◌∷◌, ◌++◌, map, length, get_or, drop, set, replicate, Some, None, sym, refl, ap, ◌∙◌, subst, ap₂, ⊎_elim, arith, below_more}
+use Rattle.std.proofs.Common.{◌≡◌, ℕ, zero, suc, ◌+◌, ◌*◌, ◌^◌, ◌<◌, ◌≤◌, Bool, true, false, not, ◌&&◌, ltb, ◌⊎◌, List, [], ◌∷◌, ◌++◌, map, length, get_or, drop, set, replicate, Some, None, sym, refl, ap, ◌∙◌, subst, ap₂, ⊎_elim, arith, below_more}
 use Rattle.std.specs.List.{range_with_len}
 use Rattle.std.proofs.lemmas.List.FromFn.{length-map-range_with_len, map-range_with_len_more, take-map-range_with_len}
 use Rattle.std.proofs.lemmas.List.{get_or-set_same, get_or-set_other, length-map, length-replicate, length-set, map_push, take-append-drop}
@@ -9,11 +9,12 @@ use Rattle.registers.specs.declared.registers.Register.{Register as RegisterPart
 use Rattle.registers.specs.declared.table.Entry.{Entry}
 use Rattle.registers.specs.Base.{Block, Register, has_key, proper_register}
 use Rattle.registers.specs.Indexing.{Entered, keys_of}
-use Rattle.registers.specs.Layout.{block_at, block_end, block_place, blocks_at, blocks_from, columns_at, register_at, rows_from}
+use Rattle.registers.specs.Layout.{block_at, block_end, block_place, blocks_at, blocks_from, columns_at, register_at, register_end, rows_from}
 use Rattle.registers.specs.Refusals.{block_fits, blocks_fit, register_fits}
 use Rattle.registers.specs.Survey.{section_at}
 use Rattle.registers.specs.Table.{Holds, Open, Probed, Slot, free, slot_at, slot_of}
-use Rattle.registers.proofs.Fitting.{block_place_more, block_place_none, fit_from}
+use Rattle.registers.proofs.Small.{small_inside}
+use Rattle.registers.proofs.Fitting.{block_place_more, block_place_none, block_within, fit_from}
 use Rattle.registers.proofs.Proper.{has_key_at, has_key_none, improper_longer, proper_push}
 use Rattle.registers.proofs.Entering.{holds_known, holds_more, holds_none, holds_open, holds_unknown}
 
@@ -83,6 +84,17 @@ stands_block r i at e l =
     let fit : blocks_fit r.base.now r.section.columns (r.section.place + 2) r.section.blocks ≡ true =
     ap₂ (λ (w n : ℕ). blocks_fit r.base.now w (r.section.place + 2) n) (stands_columns r.base.now r.section stands) (stands_blocks r.base.now r.section stands) ∙ (fit_from r.base.now r.section.place r.fits).blocks in
     ap (block_fits r.base.now r.section.columns) e ∙ block_fits_at r.base.now r.section.columns (r.section.place + 2) r.section.blocks i fit l
+
+-- its key is a number of the register, and so below 2^32
+pub stands_key : (r : RegisterPart) (i at : ℕ) → at ≡ block_place r.base.now r.section.columns (r.section.place + 2) i → i < r.section.blocks → get_or r.base.now at 0 < 2 ^ 32
+unfolding register_end
+stands_key r i at e l =
+    let stands = stands_part r in
+    let fit = fit_from r.base.now r.section.place r.fits in
+    let within = block_within r.base.now r.section.columns (r.section.place + 2) r.section.blocks i l in
+    let end : block_place r.base.now r.section.columns (r.section.place + 2) r.section.blocks ≡ register_end r.base.now r.section.place =
+    ap₂ (λ (w n : ℕ). block_place r.base.now w (r.section.place + 2) n) (stands_columns r.base.now r.section stands) (stands_blocks r.base.now r.section stands) in
+    small_inside r.base.now r.section.place (register_end r.base.now r.section.place) at fit.numbers fit.ends (omega (arith, within.0)) (omega (arith, within.1))
 
 -- what is known when i of n blocks from place p on are entered
 pub record Noting (xs : List ℕ) (w p n i at : ℕ) (table : List Slot) (places : List ℕ) : Type 0 where

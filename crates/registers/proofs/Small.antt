@@ -1,11 +1,12 @@
 -- Numbers below 2^32, told from how many of them stand before the first larger one.
-use Rattle.std.proofs.Common.{◌≡◌, ℕ, zero, suc, ◌+◌, ◌-◌, ◌<◌, ◌≤◌, min, Bool, true, false, cond, ◌&&◌, ltb, leb, List, [], ◌∷◌, length, fold, get_or, take, drop, refl, ◌∙◌, arith}
+use Rattle.std.proofs.Common.{◌≡◌, ℕ, zero, suc, ◌+◌, ◌-◌, ◌^◌, ◌<◌, ◌≤◌, min, Bool, true, false, cond, ◌&&◌, ltb, leb, List, [], ◌∷◌, length, fold, get_or, take, drop, refl, ◌∙◌, subst, arith}
 use lib.Bits.{bit_or, or_add_and}
 use Rattle.std.specs.List.{between, prefix_len}
 use Rattle.std.proofs.lemmas.List.{length-take, length-drop}
+use Rattle.std.proofs.lemmas.List.Edits.{get_or-between, length-between}
 use Rattle.std.proofs.lemmas.List.Sums.{prefix_len-le-length}
 use Rattle.std.proofs.lemmas.Nat.{and_le_l, and_le_r}
-use Rattle.std.proofs.lemmas.Bool.{cond-true, lt-ltb}
+use Rattle.std.proofs.lemmas.Bool.{and_parts, cond-true, lt-ltb, ltb-true}
 use Rattle.std.proofs.lemmas.Bool.Decides.{nat_tests}
 use Rattle.registers.specs.Refusals.{small}
 
@@ -60,6 +61,20 @@ small_drop xs p h l =
     let n : length (drop p xs) ≡ length xs - p = length-drop p xs in
     let s : small (drop p xs) ≡ leb (length (drop p xs)) (run (drop p xs)) = small_run (drop p xs) in
     grind (arith, nat_tests)
+
+-- each number of small numbers is small
+small_at : (xs : List ℕ) (k : ℕ) → small xs ≡ true → k < length xs → get_or xs k 0 < 2 ^ 32
+unfolding small
+small_at [] k e h = absurd (omega arith)
+small_at (x ∷ xs) zero e h = ltb-true x 4294967296 (and_parts (ltb x 4294967296) (small xs) e).0
+small_at (x ∷ xs) (suc k) e h = small_at xs k (and_parts (ltb x 4294967296) (small xs) e).1 (omega arith)
+
+pub small_inside : (xs : List ℕ) (p e k : ℕ) → small (between p e xs) ≡ true → e ≤ length xs → p ≤ k → k < e → get_or xs k 0 < 2 ^ 32
+small_inside xs p e k s l a b =
+    let at : p + (k - p) ≡ k = omega arith in
+    let inside : k - p < length (between p e xs) = omega (arith, length-between xs p e l) in
+    subst (λ (j : ℕ). get_or xs j 0 < 2 ^ 32) at
+    (subst (λ (n : ℕ). n < 2 ^ 32) (get_or-between xs p e (k - p) 0 (omega arith)) (small_at (between p e xs) (k - p) s inside))
 
 -- where every number is small, none is met that is large
 pub run_all : (xs : List ℕ) → ((k : ℕ) → k < length xs → get_or xs k 0 < 4294967296) → run xs ≡ length xs

@@ -44,8 +44,8 @@ impl Register<'_> {
                 return false;
             }
             table[slot] = Some(Entry {
-                key: block.key,
-                block: i,
+                key: block.key as u32,
+                block: i as u32,
             });
             *place = at;
             at += 2 + block.cells.len();

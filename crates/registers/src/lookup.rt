@@ -69,7 +69,7 @@ impl<'a> Index<'a> {
         let section = self.registers.register(t).section;
         let table = &self.slots[section.table(t)];
         let entry = table[probe(table, key)]?;
-        Some(entry.block)
+        Some(entry.block as usize)
     }
 
     // The block of a number.

@@ -2,11 +2,12 @@
 ghost use Rattle.std.specs.Prelude.{◌≡◌, ◌^◌, ◌<◌};
 ghost use Rattle.registers.specs.Table.{Open, Probed, home_of};
 
-// A key, and the number of its block in the register. A slot holds one, or nothing.
+// A key, and the number of its block in the register. A slot holds one, or nothing. Keys in registers are below 2^32,
+// and a register has at most 4,096 blocks, so four bytes hold each, and a slot takes twelve.
 #[derive(Clone, Copy)]
 pub struct Entry {
-    pub key: u64,
-    pub block: usize,
+    pub key: u32,
+    pub block: u32,
 }
 
 // Where a key's way begins in a table of so many slots: its upper bits times an odd constant, scaled to the table.
@@ -31,7 +32,7 @@ pub(crate) fn probe(table: &[Option<Entry>], key: u64) -> usize
         let Some(entry) = table[at] else {
             return at;
         };
-        if entry.key == key {
+        if u64::from(entry.key) == key {
             return at;
         }
         at += 1;

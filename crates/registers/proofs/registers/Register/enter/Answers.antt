@@ -4,7 +4,7 @@ use Rattle.registers.specs.Base.{proper_register}
 use Rattle.registers.specs.Layout.{block_end}
 use Rattle.registers.specs.Table.{Probed, slot_of}
 use Rattle.registers.proofs.Fitting.{fit_from}
-use Rattle.registers.proofs.Noting.{Noting, entered_ends, noting_more, noting_none, noting_open, noting_stops, stands_block, stands_blocks, stands_part, stands_register}
+use Rattle.registers.proofs.Noting.{Noting, entered_ends, noting_more, noting_none, noting_open, noting_stops, stands_block, stands_blocks, stands_key, stands_part, stands_register}
 use Rattle.registers.proofs.Ways.{entry_in, no_entry_in}
 use Rattle.registers.proofs.registers.Register.enter.Goals as goal
 use Rattle.registers.proofs.registers.Register.enter.Goals.{then-block-eq0-via-then-block-eq0, then-block-eq0-via-else-block-eq0+then-is_some}
@@ -32,6 +32,15 @@ returns-then-block-eq0 c =
           (elim c.then-block-eq0.branch [ then-block-eq0-via-then-block-eq0 w ↦ inl (sym c.block-block.ensures.rows ∙ w.if-block-eq0.true) | then-block-eq0-via-else-block-eq0+then-is_some w ↦ inr (entry_in _ (sym w.if-is_some.ensures)) ]));
       entered = λ e. absurd (true≢false (sym e));
     }
+
+pub overflow_cast-table : goal.overflow_cast-table
+overflow_cast-table c =
+    let small = stands_key c.args.self.now _ _ c.loop-i.invariant.place (omega arith) in
+    omega (arith, c.block-block.ensures.key)
+
+pub overflow_cast-table-in-loop-i : goal.overflow_cast-table-in-loop-i
+overflow_cast-table-in-loop-i c =
+    omega (arith, (fit_from _ _ c.args.self.now.fits).few_blocks, stands_blocks _ _ (stands_part c.args.self.now))
 
 pub loop-i-preserved : goal.loop-i-preserved
 loop-i-preserved c =

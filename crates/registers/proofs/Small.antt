@@ -83,10 +83,10 @@ run_all (x ∷ xs) h =
     cond-true _ _ _ (lt-ltb x 4294967296 (h 0 (omega arith))) ∙ omega (arith, run_all xs (λ k l. h (suc k) (omega arith)))
 
 -- a number is at most what it becomes by more bits
-or_above_left : (a b : ℕ) → a ≤ bit_or a b
+pub or_above_left : (a b : ℕ) → a ≤ bit_or a b
 or_above_left a b = omega (arith, or_add_and a b, and_le_r a b)
 
-or_above_right : (a b : ℕ) → b ≤ bit_or a b
+pub or_above_right : (a b : ℕ) → b ≤ bit_or a b
 or_above_right a b = omega (arith, or_add_and a b, and_le_l a b)
 
 -- all bits of numbers and of `bits` are at least `bits`, and at least each of the numbers

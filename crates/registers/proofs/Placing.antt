@@ -211,26 +211,27 @@ room_of xs directory slots places m n s p k =
     }
 
 -- in a turn of the loop that fills the room
-pub turn : (xs : List ℕ) (directory : Directory) (slots : List Slot) (places : List ℕ) (m n t : ℕ) (section : Section) → Room xs directory slots places → t < directory.count → m ≡ length slots → n ≡ length places → section ≡ get_or directory.sections t no_section → Turn xs t section m n
+pub turn : (xs : List ℕ) (directory : Directory) (slots : List Slot) (places : List ℕ) (m n t : ℕ) (section : Section) → Room xs directory slots places → t < directory.count → m ≡ length slots → n ≡ length places → section ≡ get_or directory.sections t no_section → Turn xs t section m n × (section ≡ section_of xs t)
 turn xs directory slots places m n t section r l e f is =
-    subst (λ (s : Section). Turn xs t s m n) (sym is)
-    (turn_at xs directory m n t
+    let u = turn_at xs directory m n t
     (record {
       fits = r.enough.fits;
       surveyed = r.enough.surveyed;
       slots_enough = omega (arith, r.enough.slots_enough);
       places_enough = omega (arith, r.enough.places_enough);
-    }) l).0
+    }) l in
+    (subst (λ (s : Section). Turn xs t s m n) (sym is) u.0, is ∙ u.1)
 
 pub placed_none : (xs : List ℕ) (directory : Directory) (slots : List Slot) (places : List ℕ) → Room xs directory slots places → Placed xs 0 slots places
 unfolding first_failing blocks_before
 placed_none xs directory slots places r =
     record { proper = refl; entered = λ i l. absurd (omega arith); behind = r.slots_free ∙ ap (λ (n : ℕ). replicate n free) (omega arith) }
 
--- the slots of the t-th register are free, and there is a place for each of its blocks
-pub placed_awaits : (xs : List ℕ) (t : ℕ) (section : Section) (slots : List Slot) (places : List ℕ) (from to first last : ℕ) → Placed xs t slots places → Turn xs t section (length slots) (length places) → from ≡ 2 * section.first + t → to ≡ from + 2 * section.blocks + 1 → first ≡ section.first → last ≡ first + section.blocks → (between from to slots ≡ replicate (2 * section.blocks + 1) free) × (length (between first last places) ≡ section.blocks)
+-- the t-th register is there, its slots are free, and there is a place for each of its blocks
+pub placed_awaits : (xs : List ℕ) (t : ℕ) (section : Section) (slots : List Slot) (places : List ℕ) (from to first last : ℕ) → Placed xs t slots places → Turn xs t section (length slots) (length places) → from ≡ 2 * section.first + t → to ≡ from + 2 * section.blocks + 1 → first ≡ section.first → last ≡ first + section.blocks → (section ≡ section_of xs t → Stands xs section) × (between from to slots ≡ replicate (2 * section.blocks + 1) free) × (length (between first last places) ≡ section.blocks)
 placed_awaits xs t section slots places from to first last k u e f g h =
     let at : from ≡ table_place xs t = omega (arith, u.first) in (
+      turn_stands xs t section (length slots) (length places) u,
       ap₂ (λ (n a : ℕ). take n (drop a slots)) (omega arith) at
           ∙ ap (take (2 * section.blocks + 1)) k.behind
           ∙ take-replicate (2 * section.blocks + 1) (length slots - table_place xs t) free (omega (arith, u.table)),

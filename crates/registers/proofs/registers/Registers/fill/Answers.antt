@@ -13,26 +13,26 @@ pub loop-t-init : goal.loop-t-init
 loop-t-init c = placed_none _ _ _ _ c.requires
 
 pub table-requires : goal.table-requires
-table-requires c = omega (arith, (turn _ _ _ _ _ _ c.loop-t.t _ c.requires c.loop-t-test.true c.loop-t.auto.slots c.loop-t.auto.places c.register-register.ensures.section).table)
+table-requires c = omega (arith, (turn _ _ _ _ _ _ c.loop-t.t _ c.requires c.loop-t-test.true c.loop-t.auto.slots c.loop-t.auto.places c.register-register.ensures.section).0.table)
 
 pub slice_bounds-enter-end : goal.slice_bounds-enter-end
-slice_bounds-enter-end c = omega (arith, (turn _ _ _ _ _ _ c.loop-t.t _ c.requires c.loop-t-test.true c.loop-t.auto.slots c.loop-t.auto.places c.register-register.ensures.section).table)
+slice_bounds-enter-end c = omega (arith, (turn _ _ _ _ _ _ c.loop-t.t _ c.requires c.loop-t-test.true c.loop-t.auto.slots c.loop-t.auto.places c.register-register.ensures.section).0.table)
 
 pub slice_bounds-enter-end-in-loop-t : goal.slice_bounds-enter-end-in-loop-t
-slice_bounds-enter-end-in-loop-t c = omega (arith, (turn _ _ _ _ _ _ c.loop-t.t _ c.requires c.loop-t-test.true c.loop-t.auto.slots c.loop-t.auto.places c.register-register.ensures.section).noted)
+slice_bounds-enter-end-in-loop-t c = omega (arith, (turn _ _ _ _ _ _ c.loop-t.t _ c.requires c.loop-t-test.true c.loop-t.auto.slots c.loop-t.auto.places c.register-register.ensures.section).0.noted)
 
 pub offset_bounds-slots-table : goal.offset_bounds-slots-table
-offset_bounds-slots-table c = omega (arith, (turn _ _ _ _ _ _ c.loop-t.t _ c.requires c.loop-t-test.true c.loop-t.auto.slots c.loop-t.auto.places c.register-register.ensures.section).table)
+offset_bounds-slots-table c = omega (arith, (turn _ _ _ _ _ _ c.loop-t.t _ c.requires c.loop-t-test.true c.loop-t.auto.slots c.loop-t.auto.places c.register-register.ensures.section).0.table)
 
 pub enter-requires : goal.enter-requires
 enter-requires c =
     let u = turn _ _ _ _ _ _ c.loop-t.t _ c.requires c.loop-t-test.true c.loop-t.auto.slots c.loop-t.auto.places c.register-register.ensures.section in
-    let free = placed_awaits _ _ _ _ _ _ _ _ _ c.loop-t.invariant u c.table.ensures.start c.table.ensures.end c.noted.ensures.start c.noted.ensures.end in
-    record { slots = free.0; room = free.1 }
+    let free = placed_awaits _ _ _ _ _ _ _ _ _ c.loop-t.invariant u.0 c.table.ensures.start c.table.ensures.end c.noted.ensures.start c.noted.ensures.end in
+    record { slots = free.1; room = free.2 }
 
 pub returns-then-not-enter : goal.returns-then-not-enter
 returns-then-not-enter c =
-    let u = turn _ _ _ _ _ _ c.loop-t.t _ c.requires c.loop-t-test.true c.loop-t.auto.slots c.loop-t.auto.places c.register-register.ensures.section in
+    let u = (turn _ _ _ _ _ _ c.loop-t.t _ c.requires c.loop-t-test.true c.loop-t.auto.slots c.loop-t.auto.places c.register-register.ensures.section).0 in
     let table = c.enter.auto.table ∙ length-between c.loop-t.slots _ _ (omega (arith, u.table)) in
     let noted = c.enter.auto.places ∙ length-between c.loop-t.places _ _ (omega (arith, u.noted)) in
     record {
@@ -47,7 +47,7 @@ returns-then-not-enter c =
 
 pub loop-t-preserved : goal.loop-t-preserved
 loop-t-preserved c =
-    let u = turn _ _ _ _ _ _ c.loop-t.t _ c.requires c.loop-t-test.true c.loop-t.auto.slots c.loop-t.auto.places c.register-register.ensures.section in
+    let u = (turn _ _ _ _ _ _ c.loop-t.t _ c.requires c.loop-t-test.true c.loop-t.auto.slots c.loop-t.auto.places c.register-register.ensures.section).0 in
     placed_more _ _ _ _ _ _ _ _ _ _ _ c.loop-t.invariant u c.table.ensures.start c.table.ensures.end c.noted.ensures.start c.noted.ensures.end
     (c.enter.auto.table ∙ length-between c.loop-t.slots _ _ (omega (arith, u.table)))
     (c.enter.auto.places ∙ length-between c.loop-t.places _ _ (omega (arith, u.noted)))

@@ -35,6 +35,11 @@ outcome_further go (c ∷ columns) s =
     outcome_then (go s) _ (passed (λ u. outcome (go u)) (length columns))
     (λ q m. outcome_made (reads_further go columns m) (and_at c q) ∙ outcome_further go columns m)
 
+-- no question more
+pub passed_none : (go : ℕ → Result ℕ Refusal) (left s : ℕ) → left ≡ 0 → Ok s ≡ passed go left s
+unfolding passed
+passed_none go left s h = sym (ap (λ (n : ℕ). passed go n s) h)
+
 -- one question more
 pub passed_more : (go : ℕ → Result ℕ Refusal) (left s : ℕ) → (left ≡ 0 → ⊥) → passed go left s ≡ next (go s) (passed go (left - 1))
 unfolding passed
@@ -89,6 +94,10 @@ module _ (widths xs : List ℕ) (short : Short xs) where
       next_bounds s e (outcome (reads widths xs s)) (passed (λ u. outcome (reads widths xs u)) left) h
       (λ m k. outcome_bounds s m k)
       (λ m k g. passed_bounds left m e k g)
+
+  -- nothing is noted so far
+  pub noted_none : (s : ℕ) (ends : List ℕ) → Noted widths xs s s ends ends
+  noted_none s ends = record { noted = λ u l m. absurd (omega arith); kept = λ u h. refl }
 
   -- the ends of some questions, and of those behind them
   pub noted_append : (from mid to : ℕ) (before between after : List ℕ) → from ≤ mid → mid ≤ to → Noted widths xs from mid before between → Noted widths xs mid to between after → Noted widths xs from to before after

@@ -32,7 +32,14 @@ impl<'a> Source<'a> {
         ensures noted { IfOk result (λ e. Noted self.now.widths.now self.now.signs.now sign e ends.old ends.new) }
     {
         let here = Sign::read(self.widths, self.signs, sign).ok_or(Refusal::Signs { sign })?;
-        let end = self.further(here.further(), sign + 1, ends)?;
+        let left = here.further();
+
+        // A sign without further questions needs no call.
+        let end = if left == 0 {
+            sign + 1
+        } else {
+            self.further(left, sign + 1, ends)?
+        };
         ends[sign] = end;
         Ok(end)
     }

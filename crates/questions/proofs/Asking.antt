@@ -71,10 +71,10 @@ counted q = ap (λ (o : Outline). o.count) q.outlined
 -- so much of a question in memory
 module _ (q : Cursor) where
   -- the numbers of all signs, and how many columns its register has
-  abbrev numbers : List ℕ
+  abbrev pub numbers : List ℕ
   numbers = q.signs.now.numbers.now
 
-  abbrev columns : ℕ
+  abbrev pub columns : ℕ
   columns = get_or q.signs.now.widths.now (register_at numbers q.sign) 0
 
   pub sign_in : Sign q.signs.now.widths.now numbers q.sign
@@ -90,10 +90,10 @@ module _ (q : Cursor) where
   pub question_is : asked_at q ≡ ask (register_at numbers q.sign) (tests_at numbers q.sign) sign_in.further
   question_is = ap question_of sign_in.is
 
-  width_is : width_at q ≡ columns
+  pub width_is : width_at q ≡ columns
   width_is = ap (width_of q.signs.now) question_is
 
-  columns_are : columns_in (further_of (asked_at q)) ≡ columns_at numbers q.sign
+  pub columns_are : columns_in (further_of (asked_at q)) ≡ columns_at numbers q.sign
   columns_are =
       ap (λ (p : Question). columns_in (further_of p)) question_is
       ∙ follow_columns q.signs.now.widths.now numbers sign_in.further _ (q.sign + 1) sign_in.end sign_in.follow

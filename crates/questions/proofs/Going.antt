@@ -1,5 +1,5 @@
 -- Registers that come again: among those gone to before, and the first of all.
-use Rattle.std.proofs.Common.{◌≡◌, ℕ, zero, suc, ◌+◌, ◌<◌, ◌≤◌, Bool, true, false, ◌||◌, eqb, List, [], ◌∷◌, map, IfSome, IsSomeAnd, MatchOption, IsTrue, Some, None, Option, sym, refl, ap, ◌∙◌, ⊎_elim, arith}
+use Rattle.std.proofs.Common.{◌≡◌, ℕ, zero, suc, ◌+◌, ◌<◌, ◌≤◌, Bool, true, false, ◌||◌, eqb, List, [], ◌∷◌, ◌++◌, map, length, get_or, drop, IfSome, IsSomeAnd, MatchOption, IsTrue, Some, None, Option, sym, refl, ap, ◌∙◌, ⊎_elim, arith}
 use Rattle.std.specs.declared.ops.Range.{Range}
 use Rattle.std.specs.Bool.{then_some}
 use Rattle.std.specs.Fn.{Called}
@@ -8,10 +8,24 @@ use Rattle.std.specs.List.{list_any, range_with_len}
 use Rattle.std.specs.Option.{option_map}
 use Rattle.std.proofs.iter.Yields.{nat_range_steps}
 use Rattle.std.proofs.iter.runs.Sources.{range_listed}
-use Rattle.std.proofs.lemmas.Bool.{cases_eq, cond-false, cond-true}
-use Rattle.std.proofs.lemmas.List.FromFn.{map-range_with_len_more}
+use Rattle.std.proofs.lemmas.Bool.{cases_eq, cond-false, cond-true, eq-eqb, ne_eqb, or_from, or_left, or_parts, or_right}
+use Rattle.std.proofs.lemmas.List.FromFn.{get_or-map-range_with_len, length-map-range_with_len, map-range_with_len_more}
+use Rattle.std.proofs.lemmas.List.{drop_all, drop_more}
 use Rattle.questions.specs.Questions.{first_again, has}
 use denote.Param.Members.{Mut}
+
+-- one number more
+has_push : (ms : List ℕ) (m n : ℕ) → has ms n ≡ false → (m ≡ n → ⊥) → has (ms ++ m ∷ []) n ≡ false
+unfolding has
+has_push [] m n e h = or_from _ _ (ne_eqb m n h) refl
+has_push (k ∷ ms) m n e h = let parts = or_parts _ _ e in or_from _ _ parts.0 (has_push ms m n parts.1 h)
+
+-- one of the numbers
+has_at : (ms : List ℕ) (i n : ℕ) → i < length ms → get_or ms i 0 ≡ n → has ms n ≡ true
+unfolding has
+has_at [] i n l e = absurd (omega arith)
+has_at (m ∷ ms) zero n l e = or_left _ _ (eq-eqb m n e)
+has_at (m ∷ ms) (suc i) n l e = or_right _ _ (has_at ms i n (omega arith) e)
 
 -- numbers that are counted
 module _ (f : ℕ → ℕ) where
@@ -19,6 +33,16 @@ module _ (f : ℕ → ℕ) where
   unfolding has
   has_counted x [] = refl
   has_counted x (i ∷ is) = ap (◌||◌ (eqb (f i) x)) (has_counted x is)
+
+  -- each of those counted is one of them
+  pub has_counted_at : (n i x : ℕ) → i < n → f i ≡ x → has (map f (range_with_len 0 n)) x ≡ true
+  has_counted_at n i x l e =
+      has_at (map f (range_with_len 0 n)) i x (omega (arith, length-map-range_with_len f 0 n)) (get_or-map-range_with_len f 0 n i i 0 l (omega arith) ∙ e)
+
+  -- what is none of them is none with the next one either, if it isn't that
+  pub has_counted_more : (i x : ℕ) → has (map f (range_with_len 0 i)) x ≡ false → (f i ≡ x → ⊥) → has (map f (range_with_len 0 (i + 1))) x ≡ false
+  has_counted_more i x e h =
+      ap (λ (ms : List ℕ). has ms x) (map-range_with_len_more f 0 i i (omega arith)) ∙ has_push (map f (range_with_len 0 i)) (f i) x e h
 
   -- whether a number is one of those before
   abbrev pub comes : ℕ → Bool
@@ -35,10 +59,34 @@ module _ (f : ℕ → ℕ) where
       cond-false _ _ _ h
       ∙ ap (λ (ms : List ℕ). first_again ms (map f (range_with_len (i + 1) n))) (sym (map-range_with_len_more f 0 i i (omega arith)))
 
-  again_none : (n i : ℕ) → ((k : ℕ) → i ≤ k → k < i + n → comes k ≡ false) → first_again (map f (range_with_len 0 i)) (map f (range_with_len i n)) ≡ None
+  -- the same of the numbers below n that are left from one on: the next comes again, or it does not, or there is none
+  counted_rest : (n i : ℕ) → i < n → drop i (map f (range_with_len 0 n)) ≡ f i ∷ drop (i + 1) (map f (range_with_len 0 n))
+  counted_rest n i l =
+      drop_more (map f (range_with_len 0 n)) i 0 (omega (arith, length-map-range_with_len f 0 n))
+      ∙ ap (λ (x : ℕ). x ∷ drop (i + 1) (map f (range_with_len 0 n))) (get_or-map-range_with_len f 0 n i i 0 l (omega arith))
+
+  pub again_found : (n i : ℕ) → i < n → has (map f (range_with_len 0 i)) (f i) ≡ true → first_again (map f (range_with_len 0 i)) (drop i (map f (range_with_len 0 n))) ≡ Some (f i)
   unfolding first_again
-  again_none zero i h = refl
-  again_none (suc n) i h = again_behind i n (h i (omega arith) (omega arith)) ∙ again_none n (i + 1) (λ k l m. h k (omega arith) (omega arith))
+  again_found n i l h =
+      ap (first_again (map f (range_with_len 0 i))) (counted_rest n i l) ∙ cond-true _ _ _ h
+
+  pub again_more : (n i : ℕ) → i < n → has (map f (range_with_len 0 i)) (f i) ≡ false → first_again (map f (range_with_len 0 (i + 1))) (drop (i + 1) (map f (range_with_len 0 n))) ≡ first_again (map f (range_with_len 0 i)) (drop i (map f (range_with_len 0 n)))
+  unfolding first_again
+  again_more n i l h =
+      sym (ap (first_again (map f (range_with_len 0 i))) (counted_rest n i l)
+      ∙ cond-false _ _ _ h
+      ∙ ap (λ (ms : List ℕ). first_again ms (drop (i + 1) (map f (range_with_len 0 n)))) (sym (map-range_with_len_more f 0 i i (omega arith))))
+
+  pub again_none : (n i : ℕ) → n ≤ i → first_again (map f (range_with_len 0 i)) (drop i (map f (range_with_len 0 n))) ≡ None
+  unfolding first_again
+  again_none n i l =
+      ap (first_again (map f (range_with_len 0 i))) (drop_all i (map f (range_with_len 0 n)) (omega (arith, length-map-range_with_len f 0 n)))
+
+  -- where none of so many comes again, and where one is the first to
+  again_nowhere : (n i : ℕ) → ((k : ℕ) → i ≤ k → k < i + n → comes k ≡ false) → first_again (map f (range_with_len 0 i)) (map f (range_with_len i n)) ≡ None
+  unfolding first_again
+  again_nowhere zero i h = refl
+  again_nowhere (suc n) i h = again_behind i n (h i (omega arith) (omega arith)) ∙ again_nowhere n (i + 1) (λ k l m. h k (omega arith) (omega arith))
 
   again_some : (n i j : ℕ) → i ≤ j → j < i + n → comes j ≡ true → ((k : ℕ) → i ≤ k → k < j → comes k ≡ false) → first_again (map f (range_with_len 0 i)) (map f (range_with_len i n)) ≡ Some (f j)
   again_some zero i j l m h b = absurd (omega arith)
@@ -65,7 +113,7 @@ module _ (f : ℕ → ℕ) where
 
   -- the first of so many, if an answer tells of it
   pub again_told : (n : ℕ) (r : Option ℕ) → MatchOption r ((k : ℕ) → k < n → then_some (comes k) (f k) ≡ None) (λ x. (i : ℕ) × (i < n) × (then_some (comes i) (f i) ≡ Some x) × ((k : ℕ) → k < i → then_some (comes k) (f k) ≡ None)) → r ≡ first_again [] (map f (range_with_len 0 n))
-  again_told n None h = sym (again_none n 0 (λ k l m. none_comes k (h k (omega arith))))
+  again_told n None h = sym (again_nowhere n 0 (λ k l m. none_comes k (h k (omega arith))))
   again_told n (Some x) h =
       let here = some_comes h.0 x h.2 in
       ap Some (sym here.1) ∙ sym (again_some n 0 h.0 (omega arith) (omega (arith, h.1)) here.0 (λ k l m. none_comes k (h.3 k m)))

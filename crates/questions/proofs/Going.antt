@@ -1,5 +1,5 @@
 -- Registers that come again: among those gone to before, and the first of all.
-use Rattle.std.proofs.Common.{◌≡◌, ℕ, zero, suc, ◌+◌, ◌<◌, ◌≤◌, Bool, true, false, ◌||◌, eqb, List, [], ◌∷◌, ◌++◌, map, length, get_or, drop, IfSome, IsSomeAnd, MatchOption, IsTrue, Some, None, Option, sym, refl, ap, ◌∙◌, ⊎_elim, arith}
+use Rattle.std.proofs.Common.{◌≡◌, ℕ, zero, suc, ◌+◌, ◌-◌, ◌<◌, ◌≤◌, Bool, true, false, ◌||◌, eqb, List, [], ◌∷◌, ◌++◌, map, length, get_or, drop, IfSome, IsSomeAnd, MatchOption, IsTrue, Some, None, Option, sym, refl, ap, ◌∙◌, ⊎_elim, arith}
 use Rattle.std.specs.declared.ops.Range.{Range}
 use Rattle.std.specs.Bool.{then_some}
 use Rattle.std.specs.Fn.{Called}
@@ -111,15 +111,24 @@ module _ (f : ℕ → ℕ) where
       at true h = (refl, cc)
       at false h = cc
 
-  -- the first of so many, if an answer tells of it
-  pub again_told : (n : ℕ) (r : Option ℕ) → MatchOption r ((k : ℕ) → k < n → then_some (comes k) (f k) ≡ None) (λ x. (i : ℕ) × (i < n) × (then_some (comes i) (f i) ≡ Some x) × ((k : ℕ) → k < i → then_some (comes k) (f k) ≡ None)) → r ≡ first_again [] (map f (range_with_len 0 n))
-  again_told n None h = sym (again_nowhere n 0 (λ k l m. none_comes k (h k (omega arith))))
+  -- none comes before the first, so that does not
+  first_comes : comes 0 ≡ false
+  unfolding has
+  first_comes = refl
+
+  none_behind : (n : ℕ) → ((k : ℕ) → 1 ≤ k → k < n → then_some (comes k) (f k) ≡ None) → (k : ℕ) → k < n → comes k ≡ false
+  none_behind n h zero l = first_comes
+  none_behind n h (suc k) l = none_comes (suc k) (h (suc k) (omega arith) l)
+
+  -- the first of so many, if an answer tells of it; nothing need be told of the first
+  pub again_told : (n : ℕ) (r : Option ℕ) → MatchOption r ((k : ℕ) → 1 ≤ k → k < n → then_some (comes k) (f k) ≡ None) (λ x. (i : ℕ) × (i < n) × (then_some (comes i) (f i) ≡ Some x) × ((k : ℕ) → 1 ≤ k → k < i → then_some (comes k) (f k) ≡ None)) → r ≡ first_again [] (map f (range_with_len 0 n))
+  again_told n None h = sym (again_nowhere n 0 (λ k l m. none_behind n h k (omega arith)))
   again_told n (Some x) h =
       let here = some_comes h.0 x h.2 in
-      ap Some (sym here.1) ∙ sym (again_some n 0 h.0 (omega arith) (omega (arith, h.1)) here.0 (λ k l m. none_comes k (h.3 k m)))
+      ap Some (sym here.1) ∙ sym (again_some n 0 h.0 (omega arith) (omega (arith, h.1)) here.0 (λ k l m. none_behind h.0 h.3 k m))
 
--- what an answer of `find_map` over the numbers below n tells of what the closure answers at each
-module _ {F : Type 0} (g : Mut F (ℕ × Unit {0}) (Option ℕ)) (f : F) (s : Range ℕ) (n : ℕ) (h : ℕ → Option ℕ) (called : (x : ℕ) (o : Option ℕ) (q : F) → Called g f (x, tt) o q → (q ≡ f) × (x < n → o ≡ h x)) where
+-- what an answer of `find_map` over the numbers from one on and below n tells of what the closure answers at each
+module _ {F : Type 0} (g : Mut F (ℕ × Unit {0}) (Option ℕ)) (f : F) (s : Range ℕ) (from n : ℕ) (h : ℕ → Option ℕ) (called : (x : ℕ) (o : Option ℕ) (q : F) → Called g f (x, tt) o q → (q ≡ f) × (x < n → o ≡ h x)) where
   told_at : (k : ℕ) (o a : Option ℕ) → k < n → option_map (λ y. y) o ≡ Some k → IfSome o (λ x. Called g f (x, tt) a f) → h k ≡ a
   told_at k (Some x) a l e c = let same : x ≡ k = cc in sym ((called k a f (rw same at c)).1 l)
   told_at k None a l e c = cc
@@ -128,35 +137,39 @@ module _ {F : Type 0} (g : Mut F (ℕ × Unit {0}) (Option ℕ)) (f : F) (s : Ra
   held (Some x) P h = h
   held None P h = tt
 
-  -- the items of a run count up from 0
-  counted : (p : Run nat_range_steps) → p.from ≡ record { start = 0; end = n } → (k : ℕ) → k < p.len → (k < n) × (option_map (λ y. y) (p.at k) ≡ Some k)
-  counted p from k l =
+  -- the items of a run count up
+  counted : (p : Run nat_range_steps) → p.from ≡ record { start = from; end = n } → (k : ℕ) → k < p.len → (from + k < n) × (option_map (λ y. y) (p.at k) ≡ Some (from + k))
+  counted p e k l =
       let up = range_listed p p.seen in
-      let start : up.0 ≡ 0 = up.2 ∙ ap (λ (r : Range ℕ). r.start) from in
-      let end : up.1 ≡ n = up.3 ∙ ap (λ (r : Range ℕ). r.end) from in
-      let place : up.0 + k ≡ k = omega arith in
-      (omega (arith, up.4.0), up.4.3 k l ∙ ap Some place)
+      let start : up.0 ≡ from = up.2 ∙ ap (λ (r : Range ℕ). r.start) e in
+      let end : up.1 ≡ n = up.3 ∙ ap (λ (r : Range ℕ). r.end) e in
+      (omega (arith, up.4.0), up.4.3 k l ∙ ap (λ (i : ℕ). Some (i + k)) start)
 
-  whole_len : (p : Run nat_range_steps) → p.from ≡ record { start = 0; end = n } → p.whole ≡ true → p.len ≡ n
-  whole_len p from w =
+  counted_to : (p : Run nat_range_steps) → p.from ≡ record { start = from; end = n } → (k : ℕ) → from ≤ k → k - from < p.len → option_map (λ y. y) (p.at (k - from)) ≡ Some k
+  counted_to p e k m l =
+      let place : from + (k - from) ≡ k = omega arith in
+      (counted p e (k - from) l).1 ∙ ap Some place
+
+  whole_len : (p : Run nat_range_steps) → p.from ≡ record { start = from; end = n } → p.whole ≡ true → p.len ≡ n - from
+  whole_len p e w =
       let up = range_listed p p.seen in
-      let start : up.0 ≡ 0 = up.2 ∙ ap (λ (r : Range ℕ). r.start) from in
-      let end : up.1 ≡ n = up.3 ∙ ap (λ (r : Range ℕ). r.end) from in
+      let start : up.0 ≡ from = up.2 ∙ ap (λ (r : Range ℕ). r.start) e in
+      let end : up.1 ≡ n = up.3 ∙ ap (λ (r : Range ℕ). r.end) e in
       omega (arith, up.4.1 w)
 
-  pub found_in : (r : Option ℕ) → s ≡ record { start = 0; end = n } → SomeRun nat_range_steps s (λ p. MatchOption r (IsTrue p.whole × AllItemsGive p g f None) (λ y. (i : ℕ) × (i < p.len) × (p.len ≡ i + 1) × IsFirstToGive p g f (Some y) None i)) → MatchOption r ((k : ℕ) → k < n → h k ≡ None) (λ x. (i : ℕ) × (i < n) × (h i ≡ Some x) × ((k : ℕ) → k < i → h k ≡ None))
+  pub found_in : (r : Option ℕ) → s ≡ record { start = from; end = n } → SomeRun nat_range_steps s (λ p. MatchOption r (IsTrue p.whole × AllItemsGive p g f None) (λ y. (i : ℕ) × (i < p.len) × (p.len ≡ i + 1) × IsFirstToGive p g f (Some y) None i)) → MatchOption r ((k : ℕ) → from ≤ k → k < n → h k ≡ None) (λ x. (i : ℕ) × (i < n) × (h i ≡ Some x) × ((k : ℕ) → from ≤ k → k < i → h k ≡ None))
   found_in None e run =
       let p = run.0 in
       let len = whole_len p (run.1 ∙ e) run.2.0 in
-      λ k l. told_at k (p.at k) None l (counted p (run.1 ∙ e) k (omega arith)).1 (run.2.1 (λ a r q c. (called a.0 r q c).0) k)
+      λ k m l. told_at k (p.at (k - from)) None l (counted_to p (run.1 ∙ e) k m (omega arith)) (run.2.1 (λ a r q c. (called a.0 r q c).0) (k - from))
   found_in (Some x) e run =
       let p = run.0 in
       let i = run.2.0 in
-      let at = counted p (run.1 ∙ e) in
-      let here = at i run.2.1 in
+      let here = counted p (run.1 ∙ e) i run.2.1 in
       let first = run.2.3 (λ a r q c. (called a.0 r q c).0) in (
-        i,
+        from + i,
         here.0,
-        told_at i (p.at i) (Some x) here.0 here.1 (held (p.at i) _ first.0),
-        λ k l. told_at k (p.at k) None (omega (arith, here.0)) (at k (omega (arith, run.2.1))).1 (held (p.at k) _ (first.1 k l)),
+        told_at (from + i) (p.at i) (Some x) here.0 here.1 (held (p.at i) _ first.0),
+        λ k m l.
+            told_at k (p.at (k - from)) None (omega (arith, here.0)) (counted_to p (run.1 ∙ e) k m (omega (arith, run.2.1))) (held (p.at (k - from)) _ (first.1 (k - from) (omega arith))),
       )

@@ -64,12 +64,12 @@ impl<'a> Source<'a> {
     }
 }
 
-// The register of the first of so many signs that goes where an earlier one went.
+// The register of the first of so many signs that goes where an earlier one went: the first of them cannot.
 fn gone_twice(numbers: &[u64], count: usize) -> Option<usize>
     requires { There numbers.now count }
     ensures { result ≡ first_again [] (map (register_at numbers.now) (range_with_len 0 count)) }
 {
-    (0..count).find_map(
+    (1..count).find_map(
         |sign|
             requires { There numbers.now (sign + 1) }
         {

@@ -8,4 +8,4 @@ use borrow.Author.Tests.{tests}
 pub returns : goal.returns
 returns c =
     again_told (register_at c.args.numbers.now) c.args.count c.find_map.result
-    (found_in _ _ _ c.args.count (again_at c.args.numbers.now) (λ x o q k. search (rules, tests)) c.find_map.result (cc) c.find_map.ensures.runs)
+    (found_in _ _ _ 1 c.args.count (again_at c.args.numbers.now) (λ x o q k. search (rules, tests)) c.find_map.result (cc) c.find_map.ensures.runs)

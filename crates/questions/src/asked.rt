@@ -78,7 +78,7 @@ impl<'a> Question<'a> {
         ensures value { (d : Test) → result ≡ slice_index_or (tests_of (asked_at self.now)) i d }
         ensures within { result.column < width_at self.now }
     {
-        self.numbers().test(i).unwrap()
+        self.numbers().known_test(i)
     }
 
     // Whether a row of its register passes all its tests.

@@ -97,6 +97,20 @@ impl<'a> Sign<'a> {
         })
     }
 
+    // One of its tests, for a sign that was read, where each has a kind: a number of none counts as the last kind, which
+    // costs less than a case of its own that cannot come.
+    pub(crate) fn known_test(&self, i: usize) -> Test
+        requires { i < most_tests }
+        ensures { result ≡ test_at self.now.numbers.now self.now.sign i }
+    {
+        let at = FIRST_TEST + i * TEST_LEN;
+        Test {
+            column: self.number(at) as usize,
+            kind: Kind::try_from(self.number(at + 1)).unwrap_or(Kind::AtMost),
+            number: self.number(at + 2),
+        }
+    }
+
     // How many further questions it has.
     pub(crate) fn further(&self) -> usize
         ensures { result ≡ further_count self.now.numbers.now self.now.sign }

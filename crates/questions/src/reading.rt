@@ -79,7 +79,9 @@ fn gone_twice(numbers: &[u64], count: usize) -> Option<usize>
     )
 }
 
-// Reads the question that all signs stand for, over registers of so many columns each, or answers its refusal.
+// Reads the question that all signs stand for, over registers of so many columns each, or answers its refusal. It
+// is inlined, so that a caller that knows its signs pays for no more than it asks of them.
+#[inline]
 pub fn read<'a>(widths: &'a [usize], signs: &'a [u64]) -> Result<Signs<'a>, Refusal>
     ensures value { Answers widths.now signs.now (signs_refusal widths.now signs.now) result }
     ensures means { Means widths.now signs.now (refusal_in result) }

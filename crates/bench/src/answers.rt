@@ -1,5 +1,5 @@
 // Whether the answers are right that are timed.
-use crate::samples::{Question, Questions, Rows, Shape};
+use crate::samples::{Question, Rows, Samples, Shape};
 use crate::searches::Times;
 use registers::{check, look_up};
 
@@ -25,14 +25,15 @@ fn count_found(base: &[u64], questions: &[Question]) -> usize {
 pub(crate) fn tell(rt: &HostRuntime) -> anyhow::Result<()> {
     let base = SMALL.make(rt.alloc())?;
     let base = base.as_slice();
-    let questions = Questions::each(rt.alloc(), SMALL)?;
+    let samples = Samples::each(rt.alloc(), SMALL)?;
+    let questions = samples.questions();
     let mut times = Times::default();
-    times.add_run(rt, base, &questions)?;
+    times.add_run(rt, base, questions)?;
     let name = SMALL.name;
-    let found = count_found(base, &questions.present);
+    let found = count_found(base, questions.present);
     let indexed = times.present.count;
     println!(rt; "{name}: {found} keys found, {indexed} by the index")?;
-    let found = count_found(base, &questions.absent);
+    let found = count_found(base, questions.absent);
     let indexed = times.absent.count;
     println!(rt; "of 512 other keys: {found} found, {indexed} by the index")?;
     let refused = check(&base[..base.len().saturating_sub(1)]).is_err();

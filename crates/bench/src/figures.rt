@@ -1,7 +1,7 @@
 // The times of registers of several sizes.
 ghost use Rattle.std.specs.Prelude.{◌<◌};
 
-use crate::samples::{QUESTIONS, Questions, Rows, Shape};
+use crate::samples::{QUESTIONS, Rows, Samples, Shape};
 use crate::searches::Times;
 use registers::check;
 use registers::layout::survey;
@@ -62,10 +62,10 @@ fn time_copies<F: Fn(&[u64]) -> Option<u64>>(
 
 // The times of an index over registers of a shape.
 fn time_index(rt: &HostRuntime, base: &[u64], shape: Shape) -> anyhow::Result<Times> {
-    let questions = Questions::mixed(rt.alloc(), shape)?;
+    let samples = Samples::mixed(rt.alloc(), shape)?;
     let mut times = Times::default();
     for _run in 0..RUNS {
-        times.add_run(rt, base, &questions)?;
+        times.add_run(rt, base, samples.questions())?;
     }
     Ok(times)
 }

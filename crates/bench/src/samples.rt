@@ -101,13 +101,20 @@ pub struct Question {
 }
 
 // The keys that are looked up: some that are there, and as many that are not.
-#[derive(Drop)]
-pub struct Questions {
-    pub present: Vec<Question>,
-    pub absent: Vec<Question>,
+#[derive(Clone, Copy)]
+pub struct Questions<'a> {
+    pub present: &'a [Question],
+    pub absent: &'a [Question],
 }
 
-impl Questions {
+// Such keys as they are made up.
+#[derive(Drop)]
+pub struct Samples {
+    present: Vec<Question>,
+    absent: Vec<Question>,
+}
+
+impl Samples {
     // Look-ups of the keys that come from so many numbers. Those from 0 on give keys that the registers have, and those
     // from `OTHERS` on give others.
     fn of_numbers<F: Fn(u32) -> u32>(
@@ -115,7 +122,7 @@ impl Questions {
         shape: Shape,
         count: u32,
         number: F,
-    ) -> Result<Questions, AllocError>
+    ) -> Result<Samples, AllocError>
         requires { F.IsAlwaysCallable number }
     {
         let of = |first: u32| {
@@ -123,20 +130,28 @@ impl Questions {
                 .map(|i| shape.question(number(i), first))
                 .collect(heap)
         };
-        Ok(Questions {
+        Ok(Samples {
             present: of(0)?,
             absent: of(OTHERS)?,
         })
     }
 
     // A look-up for each key of the registers, and for as many others, in the order of the numbers they come from.
-    pub(crate) fn each(heap: Global, shape: Shape) -> Result<Questions, AllocError> {
-        Questions::of_numbers(heap, shape, shape.key_count(), |i| i)
+    pub(crate) fn each(heap: Global, shape: Shape) -> Result<Samples, AllocError> {
+        Samples::of_numbers(heap, shape, shape.key_count(), |i| i)
     }
 
     // Look-ups of keys of the registers in no order, and of others.
-    pub(crate) fn mixed(heap: Global, shape: Shape) -> Result<Questions, AllocError> {
+    pub(crate) fn mixed(heap: Global, shape: Shape) -> Result<Samples, AllocError> {
         let all = shape.key_count().max(1);
-        Questions::of_numbers(heap, shape, QUESTIONS, |i| scattered(i) % all)
+        Samples::of_numbers(heap, shape, QUESTIONS, |i| scattered(i) % all)
+    }
+
+    // The keys.
+    pub(crate) fn questions(&self) -> Questions<'_> {
+        Questions {
+            present: self.present.as_slice(),
+            absent: self.absent.as_slice(),
+        }
     }
 }

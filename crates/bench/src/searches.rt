@@ -66,14 +66,14 @@ impl Times {
         &mut self,
         rt: &HostRuntime,
         index: &Index,
-        questions: &Questions,
+        questions: Questions,
     ) -> io::Result<()> {
         self.present
-            .run(rt, || find_all(index, &questions.present, number_under))?;
+            .run(rt, || find_all(index, questions.present, number_under))?;
         self.absent
-            .run(rt, || find_all(index, &questions.absent, number_under))?;
+            .run(rt, || find_all(index, questions.absent, number_under))?;
         self.read
-            .run(rt, || find_all(index, &questions.present, first_row))
+            .run(rt, || find_all(index, questions.present, first_row))
     }
 
     // Adds one run in room of a given size. The room is made here, since that is timed, and so its bound is asked for:
@@ -82,7 +82,7 @@ impl Times {
         &mut self,
         rt: &HostRuntime,
         registers: Registers,
-        questions: &Questions,
+        questions: Questions,
     ) -> anyhow::Result<()>
         requires enough { Enough registers.base.now registers.directory SLOTS PLACES }
         requires sizes { (SLOTS ≤ 65544) × (PLACES ≤ 32768) }
@@ -103,7 +103,7 @@ impl Times {
         &mut self,
         rt: &HostRuntime,
         base: &[u64],
-        questions: &Questions,
+        questions: Questions,
     ) -> anyhow::Result<()> {
         let registers = survey(base)?;
         match registers.directory.blocks {

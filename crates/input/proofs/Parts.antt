@@ -71,8 +71,8 @@ no_rest bytes e = nil_from_length (rest_of bytes) (omega (arith, length_rest byt
 
 -- what is held and its rest take a part as the bytes that they stand for do
 pub added : (part : List ℕ) (before after : Numbers)
-    → vec_items after.items ≡ vec_items before.items ++ numbers_of (vec_items before.rest.bytes ++ part)
-    → vec_items after.rest.bytes ≡ rest_of (vec_items before.rest.bytes ++ part) → Added part before after
+    → vec_items after.items ≡ vec_items before.items ++ numbers_of (before.rest ++ part)
+    → after.rest ≡ rest_of (before.rest ++ part) → Added part before after
 added part before after i r bytes h = record {
   items = i ∙ sym (numbers_append bytes part ∙ simp (sym h.items, sym h.rest));
   rest = r ∙ sym (rest_append bytes part ∙ simp (sym h.rest));

@@ -6,7 +6,7 @@ use Rattle.input.specs.declared.numbers.Numbers.{Numbers}
 -- what is held after these bytes, in however many parts they came
 pub record Holds (bytes : List ℕ) (n : Numbers) : Type 0 where
   pub items : vec_items n.items ≡ numbers_of bytes
-  pub rest : vec_items n.rest.bytes ≡ rest_of bytes
+  pub rest : n.rest ≡ rest_of bytes
 
 -- a part was added to whatever bytes came before it
 abbrev pub Added : List ℕ → Numbers → Numbers → Type 0

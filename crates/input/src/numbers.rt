@@ -1,5 +1,5 @@
 // Numbers of four bytes each, low byte first, from bytes that come in parts.
-ghost use Rattle.std.specs.Prelude.{◌≡◌, ◌+◌, ◌*◌, ◌/◌, ◌≤◌, [], ◌∷◌, ◌++◌, IfOk, OnOk, OnErr, length, vec_len, vec_capacity};
+ghost use Rattle.std.specs.Prelude.{◌≡◌, ◌+◌, ◌*◌, ◌/◌, ◌<◌, ◌≤◌, [], ◌∷◌, ◌++◌, ◌⊎◌, IfOk, IsOk, OnOk, OnErr, length, take, vec_len, vec_capacity};
 ghost use Rattle.input.specs.Numbers.{numbers_of, rest_of};
 ghost use Rattle.input.specs.Held.{Added, Holds, Kept};
 
@@ -16,6 +16,18 @@ pub fn number(bytes: [u8; WIDTH]) -> u64
     ensures { numbers_of bytes ≡ result ∷ [] }
 {
     u64::from(u32::from_le_bytes(bytes))
+}
+
+// Makes room for so many more. It grows as pushing one by one does, so that it comes of how many numbers there are, and
+// not of the parts in which their bytes came.
+fn make_room(numbers: &mut Vec<u64>, count: usize) -> Result<(), AllocError>
+    ensures kept { numbers.new.items ≡ numbers.old.items }
+    ensures room { OnOk result (vec_len numbers.new + count ≤ vec_capacity numbers.new) }
+{
+    while numbers.capacity() - numbers.len() < count {
+        numbers.reserve(numbers.capacity() - numbers.len() + 1)?;
+    }
+    Ok(())
 }
 
 // Pushes the numbers that the bytes stand for; answers the bytes at the end that are too few for a number. They go one
@@ -45,9 +57,10 @@ impl Numbers {
     pub fn with_room(heap: Global, room: usize) -> Result<Numbers, AllocError>
         ensures none { IfOk result (λ n. Holds [] n) }
         ensures room { IfOk result (λ n. room ≤ vec_capacity n.items) }
+        ensures succeeds { room ≡ 0 → IsOk result }
     {
         let items = Vec::with_capacity(heap, room)?;
-        let rest = Rest::new(heap)?;
+        let rest = Rest::new();
         Ok(Numbers { items, rest })
     }
 
@@ -60,27 +73,60 @@ impl Numbers {
 
     // Adds as many bytes as a number lacks, or fewer.
     fn put(&mut self, bytes: &[u8])
-        requires few { vec_len self.old.rest.bytes + length bytes.now ≤ 4 }
-        requires room { vec_len self.old.items + (vec_len self.old.rest.bytes + length bytes.now) / 4 ≤ vec_capacity self.old.items }
+        requires few { length self.old.rest + length bytes.now ≤ 4 }
+        requires room { vec_len self.old.items + (length self.old.rest + length bytes.now) / 4 ≤ vec_capacity self.old.items }
         ensures added { Added bytes.now self.old self.new }
         ensures room { vec_capacity self.new.items ≡ vec_capacity self.old.items }
-        ensures len { 4 * vec_len self.new.items + vec_len self.new.rest.bytes ≡ 4 * vec_len self.old.items + vec_len self.old.rest.bytes + length bytes.now }
+        ensures len { 4 * vec_len self.new.items + length self.new.rest ≡ 4 * vec_len self.old.items + length self.old.rest + length bytes.now }
+        ensures short { length self.new.rest < 4 }
     {
         if let Some(number) = self.rest.add(bytes) {
             self.items.push_reserved(number);
         }
     }
 
-    // Adds a part. Where there is no memory for it, all is as it was.
+    // Makes room for the numbers that a part adds, in one step. Where there is no memory for it, all is as it was.
+    pub fn reserve(&mut self, part: &[u8]) -> Result<(), AllocError>
+        ensures kept { Kept self.old self.new }
+        ensures room { OnOk result (vec_len self.new.items + (length self.new.rest + length part.now) / 4 ≤ vec_capacity self.new.items) }
+    {
+        self.items.reserve((self.rest.len() + part.len()) / WIDTH)
+    }
+
+    // Completes the number that has begun, as far as the part goes; answers how many of its bytes that took.
+    fn complete(&mut self, part: &[u8]) -> usize
+        requires { vec_len self.old.items + (length self.old.rest + length part.now) / 4 ≤ vec_capacity self.old.items }
+        ensures added { Added (take result part.now) self.old self.new }
+        ensures inside { result ≤ length part.now }
+        ensures behind { (length self.new.rest ≡ 0) ⊎ (result ≡ length part.now) }
+        ensures room { vec_capacity self.new.items ≡ vec_capacity self.old.items }
+        ensures len { 4 * vec_len self.new.items + length self.new.rest ≡ 4 * vec_len self.old.items + length self.old.rest + result }
+        ensures short { length self.new.rest < 4 }
+    {
+        let begun = self.rest.len();
+        if begun == 0 {
+            return 0;
+        }
+        let len = part.len().min(WIDTH - begun);
+        self.put(&part[..len]);
+        len
+    }
+
+    // Adds a part. Where there is no memory for it, all is as it was. It stands in place at its callers, since a part may
+    // be as small as a byte.
+    #[inline(always)]
     pub fn add(&mut self, part: &[u8]) -> Result<(), AllocError>
         ensures added { OnOk result (Added part.now self.old self.new) }
         ensures kept { OnErr result (Kept self.old self.new) }
     {
-        let begun = self.rest.len();
-        self.items.reserve((begun + part.len()) / WIDTH)?;
-        let (front, back) = part.split_at(part.len().min(WIDTH - begun));
-        self.put(front);
-        let rest = push_numbers(&mut self.items, back);
+        let count = (self.rest.len() + part.len()) / WIDTH;
+        if count == 0 {
+            self.put(part);
+            return Ok(());
+        }
+        make_room(&mut self.items, count)?;
+        let len = self.complete(part);
+        let rest = push_numbers(&mut self.items, &part[len..]);
         self.put(rest);
         Ok(())
     }
@@ -115,6 +161,17 @@ mod tests {
         numbers.add(first)?;
         numbers.add(second)?;
         assert_eq!(rt; numbers.as_slice(), listed);
+        Ok(())
+    }
+
+    #[test]
+    fn room_for_a_part(rt: HostRuntime) -> Result<(), Fail> {
+        let mut numbers = Numbers::with_room(rt.alloc(), 0)?;
+        numbers.add(&[1])?;
+        numbers.reserve(&[0, 0, 0, 2])?;
+        assert_eq!(rt; numbers.as_slice(), &[][..]);
+        numbers.add(&[0, 0, 0, 2])?;
+        assert_eq!(rt; numbers.as_slice(), &[1][..]);
         Ok(())
     }
 

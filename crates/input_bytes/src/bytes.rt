@@ -46,6 +46,7 @@ impl Input {
         ensures { self.new.bytes.items ≡ (if is_ok result then self.old.bytes.items ++ part.now else self.old.bytes.items) }
     {
         self.bytes.reserve(part.len())?;
+        self.numbers.reserve(part)?;
         self.numbers.add(part)?;
         self.bytes.extend_from_slice(part)
     }

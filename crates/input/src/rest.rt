@@ -6,7 +6,8 @@ ghost use Rattle.input.specs.Numbers.{numbers_of, rest_of};
 use crate::numbers::{WIDTH, number};
 use std::marker::Model;
 
-// The bytes behind the last number: the high ones of these four, so that a byte more only shifts them.
+// The bytes behind the last number. They are the high `len` ones of the four of `last`, so that a byte more only shifts
+// them.
 #[derive(Drop)]
 pub(crate) struct Rest {
     last: u32,

@@ -30,6 +30,7 @@ shifted (x ∷ y ∷ []) n b l s = absurd (omega arith)
 shifted (x ∷ y ∷ z ∷ []) n b l s = absurd (omega arith)
 shifted (x ∷ y ∷ z ∷ w ∷ v ∷ xs) n b l s = absurd (omega arith)
 
+-- each of four bytes is one
 below : (a b c d i : ℕ) → a < 256 → b < 256 → c < 256 → d < 256 → get_or (a ∷ b ∷ c ∷ d ∷ []) i 0 < 256
 below a b c d zero e f g h = e
 below a b c d (suc zero) e f g h = f
